@@ -1,0 +1,3 @@
+pub mod Card
+pub mod Lent
+pub mod Tray

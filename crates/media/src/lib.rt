@@ -1,0 +1,4 @@
+pub mod card;
+pub mod lent;
+pub mod sectors;
+pub mod tray;
