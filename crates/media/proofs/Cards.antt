@@ -11,14 +11,14 @@ use Rattle.std.specs.Iters.{counting}
 use Rattle.std.specs.declared.option.Option.the-variants.{Some, None}
 use Rattle.std.proofs.shelf.Counted.{fill-by-all}
 use Rattle.std.proofs.shelf.Lists.{set-getD}
-use Rattle.std.proofs.shelf.Tests.{cases-eq, cases-lt}
+use Rattle.std.proofs.shelf.Tests.{cases-eq, cases-lt, cases-bool}
 use Rattle.medium.specs.Meaning.{Bytes, Left, old, new, torn, leaves}
 use Rattle.media.specs.Lent.{pages}
-use Rattle.media.specs.Card.{card-count, tick, content, level, whole, card-page, next-tick, Next-tick, put-sectors, card-put, card-cut, card-coding}
+use Rattle.media.specs.Card.{card-count, tick, content, level, Whole, whole, card-page, next-tick, Next-tick, put-sectors, card-put, card-cut, card-coding}
 use Rattle.media.proofs.Counted.{counted-same}
 use Rattle.media.proofs.Lending.{Shows, pages-set, getD-pages}
 use Rattle.media.proofs.Putting.{Sectors-put, sectors-put}
-use Rattle.media.proofs.Ticks.{whole-by, whole-not-level, next-tick-is}
+use Rattle.media.proofs.Ticks.{whole-decides, next-tick-is}
 
 level-same : (xs ys : Bytes) (i t n : ℕ) → ((s : ℕ) → s < n → tick ys i s ≡ tick xs i s)
     → level ys i t n ≡ level xs i t n
@@ -46,21 +46,30 @@ page-same xs ys i eq =
     ap (λ b. cond b (Some (map (content ys i) (counting 0 256))) None) w
     ∙ ap (λ c. cond (whole xs i) (Some c) None) m
 
-pub page-whole : (bs : Bytes) (i : ℕ) → whole bs i ≡ true → card-page bs i ≡ Some (map (content bs i) (counting 0 256))
+-- What a whole page is, and one that is not.
+pub page-whole : (bs : Bytes) (i : ℕ) → Whole bs i → card-page bs i ≡ Some (map (content bs i) (counting 0 256))
 unfolding card-page
-page-whole bs i e = rw e
+page-whole bs i w = rw (whole-decides bs i .1 w)
 
-pub page-none : (bs : Bytes) (i : ℕ) → whole bs i ≡ false → card-page bs i ≡ None
+pub page-none : (bs : Bytes) (i : ℕ) → (Whole bs i → ⊥) → card-page bs i ≡ None
 unfolding card-page
-page-none bs i e = rw e
+page-none bs i no-whole =
+    let e : whole bs i ≡ false =
+    ⊎-elim (λ z. absurd (no-whole (whole-decides bs i .0 z))) (λ z. z) (cases-bool (whole bs i)) in
+    rw e
 
 count-same : (xs ys : Bytes) → length ys ≡ length xs → card-count ys ≡ card-count xs
 count-same xs ys len = ap (λ n. min (n / 272) 65535) len
 
 module _ (bs from : Bytes) (i : ℕ) (inside : i < card-count bs) (len : length from ≡ 256) where
+  whole-by : (ys : Bytes) (t : ℕ) → 1 ≤ t → ((s : ℕ) → s < 16 → tick ys i s ≡ t) → Whole ys i
+  whole-by ys t lo eq =
+      let first = eq 0 (omega arith) in
+      (λ z. omega arith, λ s h. eq s h ∙ sym first)
+
   new-page : (ys : Bytes) (t : ℕ) → 1 ≤ t → Sectors-put bs ys from i t 16 → card-page ys i ≡ Some from
   new-page ys t lo put =
-      page-whole ys i (whole-by ys i t lo (put .ticks))
+      page-whole ys i (whole-by ys t lo (put .ticks))
       ∙ ap Some
       (sym (fill-by-all (content ys i) from 256 0 len
       (λ k h.
@@ -72,9 +81,11 @@ module _ (bs from : Bytes) (i : ℕ) (inside : i < card-count bs) (len : length 
       → card-page ys i ≡ None
   torn-page ys t n some less next put =
       page-none ys i
-      (whole-not-level ys i 15 (omega arith)
-      (λ e. next .free
-      (15, omega arith, sym (put .above (i * 272 + 15 * 17 + 16) (omega arith)) ∙ e ∙ put .ticks 0 some)))
+      (λ w. next .free (
+        15,
+        omega arith,
+        sym (put .above (i * 272 + 15 * 17 + 16) (omega arith)) ∙ w .1 15 (omega arith) ∙ put .ticks 0 some,
+      ))
 
   others : (ys : Bytes) (t n : ℕ) → n ≤ 16 → Sectors-put bs ys from i t n → (k : ℕ) → (k ≡ i → ⊥)
       → card-page ys k ≡ card-page bs k

@@ -1,41 +1,29 @@
 -- The ticks of a card's page: whether it is whole, and which tick comes next.
 use mathlib.Core.Path.{_≡_, refl, sym, ap, _∙_}
 use mathlib.Core.Logic.{⊎-elim}
-use mathlib.Core.Bool.{Bool, true, false, cond, not, _&&_}
+use mathlib.Core.Bool.{Bool, true, false, cond, not}
 use Prim.Native.Nat.{ℕ, zero, suc, _+_, _<_, _≤_}
 use native.Mathlib.Omega.{arith}
 use lib.Dec.{eqb}
 use Rattle.std.specs.Orderings.{Decides}
-use Rattle.std.proofs.shelf.Tests.{cases-eq, cases-lt, cases-bool, ne-eqb, eq-eqb, and-from, and-left, and-right}
-use Rattle.std.proofs.shelf.Ways.{decides-below-and, decides-below-or, decides-eqb, not-from-decides}
+use Rattle.std.proofs.shelf.Tests.{cases-eq, cases-lt}
+use Rattle.std.proofs.shelf.Ways.{decides-below-and, decides-below-or, decides-eqb, decides-and, decides-not, not-from-decides}
 use Rattle.medium.specs.Meaning.{Bytes}
-use Rattle.media.specs.Card.{tick, level, whole, Carried, carries, free-from, next-tick, Next-tick}
+use Rattle.media.specs.Card.{tick, level, Whole, whole, Carried, carries, free-from, next-tick, Next-tick}
 use Rattle.media.proofs.Pigeons.{at-most}
 
 module _ (bs : Bytes) (i : ℕ) where
-  pub level-decides : (t n : ℕ) → Decides (level bs i t n) ((k : ℕ) → k < n → tick bs i k ≡ t)
+  level-decides : (t n : ℕ) → Decides (level bs i t n) ((k : ℕ) → k < n → tick bs i k ≡ t)
   unfolding level
   level-decides t n =
       decides-below-and (λ k. eqb (tick bs i k) t) (λ k. tick bs i k ≡ t) (level bs i t)
       (λ k. decides-eqb (tick bs i k) t) refl (λ _. refl) n
 
-  pub whole-by : (t : ℕ) → 1 ≤ t → ((s : ℕ) → s < 16 → tick bs i s ≡ t) → whole bs i ≡ true
+  pub whole-decides : Decides (whole bs i) (Whole bs i)
   unfolding whole
-  whole-by t lo eq =
-      ap (λ u. not (eqb u 0) && level bs i u 16) (eq 0 (omega arith))
-      ∙ and-from (not (eqb t 0)) (level bs i t 16) (ap not (ne-eqb t 0 (λ e. omega arith))) (level-decides t 16 .1 eq)
-
-  pub whole-no-zero : tick bs i 0 ≡ 0 → whole bs i ≡ false
-  unfolding whole
-  whole-no-zero e =
-      and-left (not (eqb (tick bs i 0) 0)) (level bs i (tick bs i 0) 16) (ap not (eq-eqb (tick bs i 0) 0 e))
-
-  pub whole-not-level : (s : ℕ) → s < 16 → (tick bs i s ≡ tick bs i 0 → ⊥) → whole bs i ≡ false
-  unfolding whole
-  whole-not-level s lt ne =
-      and-right (not (eqb (tick bs i 0) 0)) (level bs i (tick bs i 0) 16)
-      (⊎-elim (λ e. absurd (ne (level-decides (tick bs i 0) 16 .0 e s lt))) (λ e. e)
-      (cases-bool (level bs i (tick bs i 0) 16)))
+  whole-decides =
+      decides-and (not (eqb (tick bs i 0) 0)) (level bs i (tick bs i 0) 16)
+      (decides-not (eqb (tick bs i 0) 0) (decides-eqb (tick bs i 0) 0)) (level-decides (tick bs i 0) 16)
 
   carries-decides : (t : ℕ) → Decides (carries bs i t 16) (Carried bs i t)
   unfolding carries

@@ -21,12 +21,15 @@ tick bs i s = getD bs (i * 272 + s * 17 + 16) 0
 abbrev pub content : Bytes → ℕ → ℕ → ℕ
 content bs i k = getD bs (i * 272 + k / 16 * 17 + k % 16) 0
 
--- The first n sectors carry the tick t.
+-- A page is whole when its 16 ticks are equal and not 0.
+abbrev pub Whole : Bytes → ℕ → Type 0
+Whole bs i = (tick bs i 0 ≡ 0 → ⊥) × ((s : ℕ) → s < 16 → tick bs i s ≡ tick bs i 0)
+
+-- The same as a test; `level`: the first n sectors carry the tick t.
 unfoldable pub level : Bytes → ℕ → ℕ → ℕ → Bool
 level bs i t zero = true
 level bs i t (suc n) = eqb (tick bs i n) t && level bs i t n
 
--- A page is whole when its 16 ticks are equal and not 0.
 unfoldable pub whole : Bytes → ℕ → Bool
 whole bs i = not (eqb (tick bs i 0) 0) && level bs i (tick bs i 0) 16
 

@@ -1,4 +1,4 @@
 pub mod card;
-pub mod lent;
-pub mod sectors;
+mod lent;
+mod sectors;
 pub mod tray;

@@ -4,14 +4,14 @@ ghost use lib.ListN.{length};
 ghost use Rattle.std.specs.Orderings.{Decides};
 ghost use Rattle.medium.specs.Meaning.{Bytes};
 ghost use Rattle.medium.specs.Rules.{readable, plainly, filled};
-ghost use Rattle.media.specs.Card.{card-count, card-page, tick as tick-at, whole as whole-at, Carried, next-tick, Next-tick, put-at, put-sectors};
+ghost use Rattle.media.specs.Card.{card-count, card-page, tick as tick-at, content as content-at, Whole, Carried, next-tick, Next-tick, put-at, put-sectors};
 use crate::lent::overwrite;
 use medium::Cause;
 use medium::PAGE;
 
-pub const STRIDE: usize = 272;
+pub(crate) const STRIDE: usize = 272;
 
-pub const SECTORS: usize = 16;
+pub(crate) const SECTORS: usize = 16;
 
 const SECTOR: usize = 17;
 
@@ -25,10 +25,19 @@ fn tick(bytes: &[u8], page: u16, sector: usize) -> u8
     bytes[page as usize * STRIDE + sector * SECTOR + CONTENT]
 }
 
+// A byte of a page's content, by its number from 0 to 255.
+fn content(bytes: &[u8], page: u16, at: usize) -> u8
+    requires within { ⌜ page < card-count (now bytes) ⌝ }
+    requires place { ⌜ at < 256 ⌝ }
+    ensures { λ r. ⌜ r ≡ content-at (now (bytes .entry)) page at ⌝ }
+{
+    bytes[page as usize * STRIDE + at / CONTENT * SECTOR + at % CONTENT]
+}
+
 // All sectors carry one tick, and it is not 0.
 fn whole(bytes: &[u8], page: u16) -> bool
     requires { ⌜ page < card-count (now bytes) ⌝ }
-    ensures { λ r. ⌜ r ≡ whole-at (now (bytes .entry)) page ⌝ }
+    ensures { λ r. ⌜ Decides r (Whole (now (bytes .entry)) page) ⌝ }
 {
     let first = tick(bytes, page, 0);
     if first == 0 {
@@ -51,9 +60,8 @@ pub(crate) fn copy_out(bytes: &[u8], page: u16, into: &mut [u8]) -> Result<(), C
     if !whole(bytes, page) {
         return Err(Cause::Unreadable);
     }
-    let base = page as usize * STRIDE;
     for i in 0..PAGE {
-        into[i] = bytes[base + i / CONTENT * SECTOR + i % CONTENT];
+        into[i] = content(bytes, page, i);
     }
     Ok(())
 }
