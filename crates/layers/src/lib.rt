@@ -1,0 +1,3 @@
+mod copies;
+pub mod read_buffer;
+pub mod window;
