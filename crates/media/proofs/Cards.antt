@@ -1,8 +1,8 @@
 -- A card's coding shows what it writes.
 use mathlib.Core.Path.{_≡_, refl, sym, ap, subst, _∙_}
 use mathlib.Core.Logic.{⊎-elim}
-use mathlib.Core.Bool.{Bool, true, false, cond, not, _&&_}
-use mathlib.Core.List.{List, map}
+use mathlib.Core.Bool.{false, cond, not, _&&_}
+use mathlib.Core.List.{map}
 use Prim.Native.Nat.{ℕ, zero, suc, _+_, _*_, _/_, _%_, _<_, _≤_, min}
 use native.Mathlib.Omega.{arith}
 use lib.Dec.{eqb}
@@ -10,13 +10,13 @@ use lib.ListN.{length, getD, set}
 use Rattle.std.specs.Iters.{counting}
 use Rattle.std.specs.declared.option.Option.the-variants.{Some, None}
 use Rattle.std.proofs.shelf.Counted.{fill-by-all}
-use Rattle.std.proofs.shelf.Lists.{set-getD}
 use Rattle.std.proofs.shelf.Tests.{cases-eq, cases-lt, cases-bool}
 use Rattle.medium.specs.Meaning.{Bytes, Left, old, new, torn, leaves}
 use Rattle.media.specs.Lent.{pages}
-use Rattle.media.specs.Card.{card-count, tick, content, level, Whole, whole, card-page, next-tick, Next-tick, put-sectors, card-put, card-cut, card-coding}
+use Rattle.media.specs.Card.{card-count, tick, content, level, Whole, whole, card-page}
+use Rattle.media.specs.Card.{next-tick, Next-tick, put-sectors, card-put, card-cut, card-coding}
 use Rattle.media.proofs.Counted.{counted-same}
-use Rattle.media.proofs.Lending.{Shows, pages-set, getD-pages}
+use Rattle.media.proofs.Lending.{Shows, pages-set}
 use Rattle.media.proofs.Putting.{Sectors-put, sectors-put}
 use Rattle.media.proofs.Ticks.{whole-decides, next-tick-is}
 

@@ -1,7 +1,7 @@
 -- A medium over lent bytes does what the rules of a medium say, if its coding shows what it writes.
 use mathlib.Core.Path.{_≡_, refl, sym, ap, subst, _∙_}
 use mathlib.Core.Bool.{Bool, true, false, cond}
-use mathlib.Core.List.{List, [], map}
+use mathlib.Core.List.{[], map}
 use Prim.Native.Nat.{ℕ, _-_, _<_}
 use native.Mathlib.Omega.{arith}
 use lib.Dec.{eqb}
@@ -14,7 +14,7 @@ use Rattle.std.proofs.shelf.Counted.{length-map-counting, getD-map-counting}
 use Rattle.std.proofs.shelf.Tests.{eqb-true}
 use Rattle.medium.specs.declared.Cause.{Cause}
 use Rattle.medium.specs.declared.Cause.the-variants.{Dark}
-use Rattle.medium.specs.Meaning.{Bytes, Page, Left, Meaning, size, page, leaves}
+use Rattle.medium.specs.Meaning.{Bytes, Page, Left, Meaning, page, leaves, with-page}
 use Rattle.medium.specs.Outcome.{Gives, done, refused, struck}
 use Rattle.medium.specs.Rules.{refusal, refuses, reads, unless-refused, write, write-unless, written, struck-at}
 use Rattle.medium.proofs.Access.{passed}
@@ -61,26 +61,31 @@ module _ (c : Coding) where
       sym (ap (λ o. unless-refused o (page (means c e) i)) (refuses-is e i n) ∙ reads-unless e i n _ refl)
 
   module _ (shows : Shows c) (e : Lent) (i : ℕ) (bs : Bytes) (r : Result (Unit {0}) Cause) (f : Lent) where
+    abbrev m : Meaning
+    m = means c e
+
+    -- where the checks have passed
     charged : i < c .count (e .bytes) → length bs ≡ 256 → e .lit ≡ true → (t : Bool) → eqb (e .charge) 0 ≡ t
         → Gives (cond t (refused Dark (cut-off c e i bs) []) (done tt (stored c e i bs) [])) r f
-        → Gives (cond t (struck Dark (struck-at (means c e) i bs) (λ w. [])) (done tt (written (means c e) i bs) [])) r (means c f)
+        → Gives (cond t (struck Dark (struck-at m i bs) (λ w. [])) (done tt (written m i bs) [])) r (means c f)
     charged lt len on true z g =
         let s = shows .cut-shows (e .strike) (e .bytes) bs i lt len in
-        let at : c .decode (e .bytes) i ≡ page (means c e) i = sym (getD-pages (e .bytes) i None lt) in (
+        let at : c .decode (e .bytes) i ≡ page m i = sym (getD-pages (e .bytes) i None lt) in (
           g .0,
           (
             s .0,
             ap (means c) (g .1)
                 ∙ ap (λ q. record { pages = q; charge = e .charge; lit = false }) (s .1)
-                ∙ ap (λ p. record { pages = set (pages c (e .bytes)) i (leaves (s .0) p bs); charge = e .charge; lit = false }) at
-                ∙ ap (λ n. record { pages = set (pages c (e .bytes)) i (leaves (s .0) (page (means c e) i) bs); charge = n; lit = false }) (eqb-true (e .charge) 0 z),
+                ∙ ap (λ p. with-page m i (leaves (s .0) p bs) (e .charge) false) at
+                ∙ ap (λ n. with-page m i (leaves (s .0) (page m i) bs) n false) (eqb-true (e .charge) 0 z),
           ),
         )
     charged lt len on false z g = (
       g .0,
       ap (means c) (g .1)
-          ∙ ap (λ q. record { pages = q; charge = e .charge - 1; lit = e .lit }) (shows .put-shows (e .bytes) bs i lt len)
-          ∙ ap (λ b. record { pages = set (pages c (e .bytes)) i (Some bs); charge = e .charge - 1; lit = b }) on,
+          ∙ ap (λ q. record { pages = q; charge = e .charge - 1; lit = e .lit })
+          (shows .put-shows (e .bytes) bs i lt len)
+          ∙ ap (λ b. with-page m i (Some bs) (e .charge - 1) b) on,
     )
 
     allowed-store : (o : Option Cause) → refuses-lent c e i (length bs) ≡ o → Gives (store-unless c o e i bs) r f

@@ -1,10 +1,9 @@
 -- What the bytes of a card are after the first sectors of a page were written.
 use mathlib.Core.Path.{_≡_, refl, sym, ap, _∙_}
-use mathlib.Core.Logic.{_⊎_, inl, inr, ⊎-elim}
-use mathlib.Core.List.{List}
-use Prim.Native.Nat.{ℕ, zero, suc, _+_, _*_, _/_, _<_, _≤_}
+use mathlib.Core.Logic.{⊎-elim}
+use Prim.Native.Nat.{ℕ, zero, suc, _+_, _*_, _<_, _≤_}
 use native.Mathlib.Omega.{arith}
-use lib.ListN.{length, getD, set, take, drop, length-set, length-take, length-drop}
+use lib.ListN.{length, getD, take, drop, length-set, length-take, length-drop}
 use Rattle.std.proofs.shelf.Lists.{getD-set-same, getD-set-other, getD-take, getD-drop}
 use Rattle.std.proofs.shelf.Tests.{cases-eq}
 use Rattle.medium.specs.Meaning.{Bytes}

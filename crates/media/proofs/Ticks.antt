@@ -1,5 +1,5 @@
 -- The ticks of a card's page: whether it is whole, and which tick comes next.
-use mathlib.Core.Path.{_≡_, refl, sym, ap, _∙_}
+use mathlib.Core.Path.{_≡_, refl, sym, _∙_}
 use mathlib.Core.Logic.{⊎-elim}
 use mathlib.Core.Bool.{Bool, true, false, cond, not}
 use Prim.Native.Nat.{ℕ, zero, suc, _+_, _<_, _≤_}
@@ -7,7 +7,8 @@ use native.Mathlib.Omega.{arith}
 use lib.Dec.{eqb}
 use Rattle.std.specs.Orderings.{Decides}
 use Rattle.std.proofs.shelf.Tests.{cases-eq, cases-lt}
-use Rattle.std.proofs.shelf.Ways.{decides-below-and, decides-below-or, decides-eqb, decides-and, decides-not, not-from-decides}
+use Rattle.std.proofs.shelf.Ways.{decides-below-and, decides-below-or, decides-eqb, decides-and, decides-not}
+use Rattle.std.proofs.shelf.Ways.{not-from-decides}
 use Rattle.medium.specs.Meaning.{Bytes}
 use Rattle.media.specs.Card.{tick, level, Whole, whole, Carried, carries, free-from, next-tick, Next-tick}
 use Rattle.media.proofs.Pigeons.{at-most}

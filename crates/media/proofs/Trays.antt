@@ -1,8 +1,7 @@
 -- A tray's coding shows what it writes.
-use mathlib.Core.Path.{_≡_, refl, sym, ap, _∙_}
+use mathlib.Core.Path.{_≡_, sym, ap, _∙_}
 use mathlib.Core.Logic.{_⊎_, inl, inr, ⊎-elim}
 use mathlib.Core.Bool.{Bool, true, false, cond}
-use mathlib.Core.List.{List}
 use Prim.Native.Nat.{ℕ, _+_, _*_, _/_, _<_, _≤_, min}
 use native.Mathlib.Omega.{arith}
 use lib.Dec.{eqb}
@@ -28,9 +27,6 @@ page-same xs ys i len eq =
     let mark : getD ys (i * 257 + 256) 0 ≡ getD xs (i * 257 + 256) 0 = eq 256 0 (omega arith) in
     rw (content, mark)
 
-count-same : (xs ys : Bytes) → length ys ≡ length xs → tray-count ys ≡ tray-count xs
-count-same xs ys len = ap (λ n. min (n / 257) 65535) len
-
 module _ (bs from : Bytes) (i : ℕ) (inside : i < tray-count bs) (len : length from ≡ 256) where
   fits : i * 257 + length from ≤ length bs
   fits = omega arith
@@ -44,16 +40,21 @@ module _ (bs from : Bytes) (i : ℕ) (inside : i < tray-count bs) (len : length 
       getD-set-same (over bs (i * 257) from) (i * 257 + 256) 1 0 (omega arith)
 
   -- a byte of the page's content, and one of another page
+  abbrev Elsewhere : ℕ → Type 0
+  Elsewhere q = (q < i * 257) ⊎ (i * 257 + 257 ≤ q)
+
   content-at : (k d : ℕ) → k < 256 → getD (tray-put bs i from) (i * 257 + k) d ≡ getD from k d
   content-at k d h =
       getD-set-other (over bs (i * 257) from) (i * 257 + 256) (i * 257 + k) 1 d (λ e. omega arith)
       ∙ over-inside bs from (i * 257) fits k d (omega arith)
 
-  other-at : (q d : ℕ) → (q < i * 257) ⊎ (i * 257 + 257 ≤ q) → getD (tray-put bs i from) q d ≡ getD bs q d
-  other-at q d side =
-      getD-set-other (over bs (i * 257) from) (i * 257 + 256) q 1 d (λ e. ⊎-elim (λ (h : q < i * 257). omega arith) (λ (h : i * 257 + 257 ≤ q). omega arith) side)
-      ∙ ⊎-elim (λ (h : q < i * 257). over-below bs from (i * 257) fits q d h)
-      (λ (h : i * 257 + 257 ≤ q). over-above bs from (i * 257) fits q d (omega arith)) side
+  other-at : (q d : ℕ) → Elsewhere q → getD (tray-put bs i from) q d ≡ getD bs q d
+  other-at q d (inl below) =
+      getD-set-other (over bs (i * 257) from) (i * 257 + 256) q 1 d (λ e. omega arith)
+      ∙ over-below bs from (i * 257) fits q d below
+  other-at q d (inr above) =
+      getD-set-other (over bs (i * 257) from) (i * 257 + 256) q 1 d (λ e. omega arith)
+      ∙ over-above bs from (i * 257) fits q d (omega arith)
 
   content-put : take 256 (drop (i * 257) (tray-put bs i from)) ≡ from
   content-put =
@@ -62,24 +63,27 @@ module _ (bs from : Bytes) (i : ℕ) (inside : i < tray-count bs) (len : length 
       let kl : k < 256 = omega (arith, length-take 256 (drop (i * 257) (tray-put bs i from))) in
       rw (getD-take, getD-drop) (content-at k d kl))
 
-  put-page : tray-page (tray-put bs i from) i ≡ Some from
-  put-page = rw (mark-put, content-put)
-
-  pub tray-put-shows : pages tray-coding (tray-put bs i from) ≡ set (pages tray-coding bs) i (Some from)
-  tray-put-shows =
-      pages-set tray-coding bs (tray-put bs i from) i (Some from) (count-same bs (tray-put bs i from) length-put) inside put-page
-      (λ k lt ne. page-same bs (tray-put bs i from) k length-put (λ j d h. other-at (k * 257 + j) d (sides k j ne h)))
+  -- bytes that are the same elsewhere show the same other pages
+  shown : (ys : Bytes) (v : Page) → length ys ≡ length bs → tray-page ys i ≡ v
+      → ((q d : ℕ) → Elsewhere q → getD ys q d ≡ getD bs q d)
+      → pages tray-coding ys ≡ set (pages tray-coding bs) i v
+  shown ys v long here same =
+      pages-set tray-coding bs ys i v (ap (λ n. min (n / 257) 65535) long) inside here
+      (λ k lt ne. page-same bs ys k long (λ j d h. same (k * 257 + j) d (side k j ne h)))
     where
-      sides : (k j : ℕ) → (k ≡ i → ⊥) → j < 257 → (k * 257 + j < i * 257) ⊎ (i * 257 + 257 ≤ k * 257 + j)
-      sides k j ne h = ⊎-elim (λ (l : k < i). inl (omega arith)) (λ (l : i ≤ k). inr (omega arith)) (cases-lt k i)
+      side : (k j : ℕ) → (k ≡ i → ⊥) → j < 257 → Elsewhere (k * 257 + j)
+      side k j ne h = ⊎-elim (λ (l : k < i). inl (omega arith)) (λ (l : i ≤ k). inr (omega arith)) (cases-lt k i)
 
-  pub tray-torn-shows : pages tray-coding (tray-torn bs i) ≡ set (pages tray-coding bs) i None
+  tray-put-shows : pages tray-coding (tray-put bs i from) ≡ set (pages tray-coding bs) i (Some from)
+  tray-put-shows = shown (tray-put bs i from) (Some from) length-put (rw (mark-put, content-put)) other-at
+
+  tray-torn-shows : pages tray-coding (tray-torn bs i) ≡ set (pages tray-coding bs) i None
   tray-torn-shows =
-      let long = length-set bs (i * 257 + 256) 2 in
       let mark : getD (tray-torn bs i) (i * 257 + 256) 0 ≡ 2 = getD-set-same bs (i * 257 + 256) 2 0 (omega arith) in
-      pages-set tray-coding bs (tray-torn bs i) i None (count-same bs (tray-torn bs i) long) inside (rw mark)
-      (λ k lt ne. page-same bs (tray-torn bs i) k long
-      (λ j d h. getD-set-other bs (i * 257 + 256) (k * 257 + j) 2 d (λ e. ne (omega arith))))
+      shown (tray-torn bs i) None (length-set bs (i * 257 + 256) 2) (rw mark)
+      (λ q d side.
+      getD-set-other bs (i * 257 + 256) q 2 d
+      (λ e. ⊎-elim (λ (h : q < i * 257). omega arith) (λ (h : i * 257 + 257 ≤ q). omega arith) side))
 
   -- by the strike's number
   cut-by : (a b : Bool)
@@ -94,7 +98,7 @@ module _ (bs from : Bytes) (i : ℕ) (inside : i < tray-count bs) (len : length 
   cut-by false true = (new, tray-put-shows)
   cut-by false false = (torn, tray-torn-shows)
 
-  pub tray-cut-shows : (strike : ℕ)
+  tray-cut-shows : (strike : ℕ)
       → (w : Left)
       × (pages tray-coding (tray-cut strike bs i from) ≡ set (pages tray-coding bs) i (leaves w (tray-page bs i) from))
   tray-cut-shows strike = cut-by (eqb strike 0) (eqb strike 1)

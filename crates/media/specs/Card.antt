@@ -7,9 +7,12 @@ use lib.Dec.{eqb}
 use lib.ListN.{length, getD, set, take, drop}
 use Rattle.std.specs.Iters.{counting}
 use Rattle.std.specs.declared.option.Option.the-variants.{Some, None}
+use Rattle.std.specs.declared.result.Result.{Result}
+use Rattle.medium.specs.declared.Cause.{Cause}
 use Rattle.medium.specs.Meaning.{Bytes, Page, Meaning}
+use Rattle.medium.specs.Outcome.{Outcome}
 use Rattle.media.specs.declared.card.Card.{Card}
-use Rattle.media.specs.Lent.{Lent, Coding, means, over}
+use Rattle.media.specs.Lent.{Lent, Coding, means, over, reads-lent, store}
 
 abbrev pub card-count : Bytes → ℕ
 card-count bs = min (length bs / 272) 65535
@@ -82,6 +85,13 @@ card-coding = record { count = card-count; decode = card-page; put = card-put; c
 
 abbrev pub of-card : Card → Lent
 of-card c = record { bytes = c .bytes .now; strike = c .stop; charge = c .charge; lit = c .lit }
+
+-- A read and a write of a card, to the byte.
+abbrev pub card-reads : Card → ℕ → ℕ → Result Bytes Cause
+card-reads c i n = reads-lent card-coding (of-card c) i n
+
+abbrev pub card-store : Card → ℕ → Bytes → Outcome Cause Lent (Unit {0})
+card-store c i bs = store card-coding (of-card c) i bs
 
 abbrev pub card-means : Card → Meaning
 card-means c = means card-coding (of-card c)

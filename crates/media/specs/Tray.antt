@@ -4,9 +4,12 @@ use mathlib.Core.Bool.{cond}
 use lib.Dec.{eqb}
 use lib.ListN.{length, getD, set, take, drop}
 use Rattle.std.specs.declared.option.Option.the-variants.{Some, None}
+use Rattle.std.specs.declared.result.Result.{Result}
+use Rattle.medium.specs.declared.Cause.{Cause}
 use Rattle.medium.specs.Meaning.{Bytes, Page, Meaning}
+use Rattle.medium.specs.Outcome.{Outcome}
 use Rattle.media.specs.declared.tray.Tray.{Tray}
-use Rattle.media.specs.Lent.{Lent, Coding, means, over}
+use Rattle.media.specs.Lent.{Lent, Coding, means, over, reads-lent, store}
 
 abbrev pub tray-count : Bytes → ℕ
 tray-count bs = min (length bs / 257) 65535
@@ -31,6 +34,13 @@ tray-coding = record { count = tray-count; decode = tray-page; put = tray-put; c
 
 abbrev pub of-tray : Tray → Lent
 of-tray t = record { bytes = t .bytes .now; strike = t .strike; charge = t .charge; lit = t .lit }
+
+-- A read and a write of a tray, to the byte.
+abbrev pub tray-reads : Tray → ℕ → ℕ → Result Bytes Cause
+tray-reads t i n = reads-lent tray-coding (of-tray t) i n
+
+abbrev pub tray-store : Tray → ℕ → Bytes → Outcome Cause Lent (Unit {0})
+tray-store t i bs = store tray-coding (of-tray t) i bs
 
 abbrev pub tray-means : Tray → Meaning
 tray-means t = means tray-coding (of-tray t)

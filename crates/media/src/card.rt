@@ -6,8 +6,8 @@ ghost use Rattle.std.specs.declared.result.Result.the-variants.{Ok};
 ghost use Rattle.medium.specs.Meaning.{size};
 ghost use Rattle.medium.specs.Outcome.{Gives};
 ghost use Rattle.medium.specs.Rules.{allowed, reads, filled, plainly, write, relit};
-ghost use Rattle.media.specs.Lent.{fresh, relit-lent, refuses-lent, reads-lent, store};
-ghost use Rattle.media.specs.Card.{card-count, card-coding, of-card, card-means, card-inorder};
+ghost use Rattle.media.specs.Lent.{fresh, relit-lent, refuses-lent};
+ghost use Rattle.media.specs.Card.{card-count, card-coding, of-card, card-means, card-inorder, card-reads, card-store};
 use crate::lent::pages_in;
 use crate::sectors::SECTORS;
 use crate::sectors::STRIDE;
@@ -56,15 +56,17 @@ impl<'a> Card<'a> {
     }
 
     fn fetch(&self, page: u16, into: &mut [u8]) -> Result<(), Cause>
-        ensures answer { λ r. ⌜ r ≡ plainly (reads-lent card-coding (of-card (now (self .entry))) page (length (now (into .entry)))) ⌝ }
-        ensures buffer { λ _. ⌜ now (into .exit) ≡ filled (now (into .entry)) (reads-lent card-coding (of-card (now (self .entry))) page (length (now (into .entry)))) ⌝ }
+        ensures answer { λ r. ⌜ r ≡ plainly (card-reads (now (self .entry)) page (length (now (into .entry)))) ⌝ }
+        ensures buffer { λ _. ⌜ now (into .exit)
+            ≡ filled (now (into .entry)) (card-reads (now (self .entry)) page (length (now (into .entry)))) ⌝ }
     {
         self.check(page, into.len())?;
         copy_out(self.bytes, page, into)
     }
 
     fn store(&mut self, page: u16, from: &[u8]) -> Result<(), Cause>
-        ensures exact { λ r. ⌜ Gives (store card-coding (of-card (now (self .entry))) page (now (from .entry))) r (of-card (now (self .exit))) ⌝ }
+        ensures exact { λ r. ⌜ Gives (card-store (now (self .entry)) page (now (from .entry))) r
+            (of-card (now (self .exit))) ⌝ }
         ensures lender { λ _. ⌜ name (now (self .exit) .bytes) ≡ name (now (self .entry) .bytes) ⌝ }
     {
         self.check(page, from.len())?;
@@ -80,6 +82,8 @@ impl<'a> Card<'a> {
     }
 }
 
+// Besides what a medium owes, each function says what stands in the lent slice then, to the byte (`exact`), and that it
+// is the same slice (`lender`), so that whoever lent it knows what it holds when the card is gone.
 pub impl<'a> Medium for Card<'a> as CardMedium {
     ghost means = { card-means };
 
@@ -93,9 +97,13 @@ pub impl<'a> Medium for Card<'a> as CardMedium {
 
     fn read(&mut self, page: u16, into: &mut [u8]) -> Result<(), Cause>
         ensures keeps { λ _. ⌜ (card-inorder (now (self .entry)) → card-inorder (now (self .exit))) ⌝ }
-        ensures answer { λ r. ⌜ (card-inorder (now (self .entry)) → r ≡ plainly (reads (card-means (now (self .entry))) page (length (now (into .entry))))) ⌝ }
-        ensures buffer { λ _. ⌜ (card-inorder (now (self .entry)) → now (into .exit) ≡ filled (now (into .entry)) (reads (card-means (now (self .entry))) page (length (now (into .entry))))) ⌝ }
-        ensures same { λ _. ⌜ (card-inorder (now (self .entry)) → card-means (now (self .exit)) ≡ card-means (now (self .entry))) ⌝ }
+        ensures answer { λ r. ⌜ (card-inorder (now (self .entry))
+            → r ≡ plainly (reads (card-means (now (self .entry))) page (length (now (into .entry))))) ⌝ }
+        ensures buffer { λ _. ⌜ (card-inorder (now (self .entry))
+            → now (into .exit)
+            ≡ filled (now (into .entry)) (reads (card-means (now (self .entry))) page (length (now (into .entry))))) ⌝ }
+        ensures same { λ _. ⌜ (card-inorder (now (self .entry))
+            → card-means (now (self .exit)) ≡ card-means (now (self .entry))) ⌝ }
         ensures exact { λ _. ⌜ of-card (now (self .exit)) ≡ of-card (now (self .entry)) ⌝ }
         ensures lender { λ _. ⌜ name (now (self .exit) .bytes) ≡ name (now (self .entry) .bytes) ⌝ }
     {
@@ -104,8 +112,11 @@ pub impl<'a> Medium for Card<'a> as CardMedium {
 
     fn write(&mut self, page: u16, from: &[u8]) -> Result<(), Cause>
         ensures keeps { λ _. ⌜ (card-inorder (now (self .entry)) → card-inorder (now (self .exit))) ⌝ }
-        ensures gives { λ r. ⌜ (card-inorder (now (self .entry)) → Gives (write (card-means (now (self .entry))) page (now (from .entry))) r (card-means (now (self .exit)))) ⌝ }
-        ensures exact { λ r. ⌜ Gives (store card-coding (of-card (now (self .entry))) page (now (from .entry))) r (of-card (now (self .exit))) ⌝ }
+        ensures gives { λ r. ⌜ (card-inorder (now (self .entry))
+            → Gives (write (card-means (now (self .entry))) page (now (from .entry))) r
+            (card-means (now (self .exit)))) ⌝ }
+        ensures exact { λ r. ⌜ Gives (card-store (now (self .entry)) page (now (from .entry))) r
+            (of-card (now (self .exit))) ⌝ }
         ensures lender { λ _. ⌜ name (now (self .exit) .bytes) ≡ name (now (self .entry) .bytes) ⌝ }
     {
         self.store(page, from)
@@ -113,7 +124,8 @@ pub impl<'a> Medium for Card<'a> as CardMedium {
 
     fn relight(&mut self, charge: u32)
         ensures keeps { λ _. ⌜ (card-inorder (now (self .entry)) → card-inorder (now (self .exit))) ⌝ }
-        ensures after { λ _. ⌜ (card-inorder (now (self .entry)) → card-means (now (self .exit)) ≡ relit (card-means (now (self .entry))) charge) ⌝ }
+        ensures after { λ _. ⌜ (card-inorder (now (self .entry))
+            → card-means (now (self .exit)) ≡ relit (card-means (now (self .entry))) charge) ⌝ }
         ensures exact { λ _. ⌜ of-card (now (self .exit)) ≡ relit-lent (of-card (now (self .entry))) charge ⌝ }
         ensures lender { λ _. ⌜ name (now (self .exit) .bytes) ≡ name (now (self .entry) .bytes) ⌝ }
     {

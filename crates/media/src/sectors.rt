@@ -4,7 +4,8 @@ ghost use lib.ListN.{length};
 ghost use Rattle.std.specs.Orderings.{Decides};
 ghost use Rattle.medium.specs.Meaning.{Bytes};
 ghost use Rattle.medium.specs.Rules.{readable, plainly, filled};
-ghost use Rattle.media.specs.Card.{card-count, card-page, tick as tick-at, content as content-at, Whole, Carried, next-tick, Next-tick, put-at, put-sectors};
+ghost use Rattle.media.specs.Card.{card-count, card-page, tick as tick-at, content as content-at, Whole, Carried};
+ghost use Rattle.media.specs.Card.{next-tick, Next-tick, put-at, put-sectors};
 use crate::lent::overwrite;
 use medium::Cause;
 use medium::PAGE;
@@ -55,7 +56,8 @@ pub(crate) fn copy_out(bytes: &[u8], page: u16, into: &mut [u8]) -> Result<(), C
     requires within { ⌜ page < card-count (now bytes) ⌝ }
     requires len { ⌜ length (now into) ≡ 256 ⌝ }
     ensures answer { λ r. ⌜ r ≡ plainly (readable (card-page (now (bytes .entry)) page)) ⌝ }
-    ensures buffer { λ _. ⌜ now (into .exit) ≡ filled (now (into .entry)) (readable (card-page (now (bytes .entry)) page)) ⌝ }
+    ensures buffer { λ _. ⌜ now (into .exit)
+        ≡ filled (now (into .entry)) (readable (card-page (now (bytes .entry)) page)) ⌝ }
 {
     if !whole(bytes, page) {
         return Err(Cause::Unreadable);
@@ -106,7 +108,8 @@ fn put_next(bytes: &mut [u8], page: u16, sector: usize, from: &[u8], mark: u8)
     requires within { ⌜ page < card-count (now bytes) ⌝ }
     requires len { ⌜ length (now from) ≡ 256 ⌝ }
     requires sector { ⌜ sector < 16 ⌝ }
-    ensures { λ _. ⌜ ((before : Bytes) → now (bytes .entry) ≡ put-sectors before page mark (now (from .entry)) sector → now (bytes .exit) ≡ put-sectors before page mark (now (from .entry)) (sector + 1)) ⌝ }
+    ensures { λ _. ⌜ ((before : Bytes) → now (bytes .entry) ≡ put-sectors before page mark (now (from .entry)) sector
+        → now (bytes .exit) ≡ put-sectors before page mark (now (from .entry)) (sector + 1)) ⌝ }
 {
     let part = &from[sector * CONTENT..sector * CONTENT + CONTENT];
     put_at(bytes, page as usize * STRIDE + sector * SECTOR, part, mark);
@@ -117,7 +120,8 @@ pub(crate) fn put(bytes: &mut [u8], page: u16, from: &[u8], sectors: usize)
     requires within { ⌜ page < card-count (now bytes) ⌝ }
     requires len { ⌜ length (now from) ≡ 256 ⌝ }
     requires sectors { ⌜ sectors ≤ 16 ⌝ }
-    ensures { λ _. ⌜ now (bytes .exit) ≡ put-sectors (now (bytes .entry)) page (next-tick (now (bytes .entry)) page) (now (from .entry)) sectors ⌝ }
+    ensures { λ _. ⌜ now (bytes .exit) ≡ put-sectors (now (bytes .entry)) page (next-tick (now (bytes .entry)) page)
+        (now (from .entry)) sectors ⌝ }
 {
     let mark = free_tick(bytes, page);
     for sector in 0..sectors {

@@ -6,8 +6,9 @@ ghost use Rattle.std.specs.declared.result.Result.the-variants.{Ok};
 ghost use Rattle.medium.specs.Meaning.{size};
 ghost use Rattle.medium.specs.Outcome.{Gives};
 ghost use Rattle.medium.specs.Rules.{allowed, readable, reads, filled, plainly, write, relit};
-ghost use Rattle.media.specs.Lent.{fresh, relit-lent, refuses-lent, reads-lent, store};
-ghost use Rattle.media.specs.Tray.{tray-count, tray-page, tray-put, tray-torn, tray-coding, of-tray, tray-means, tray-inorder};
+ghost use Rattle.media.specs.Lent.{fresh, relit-lent, refuses-lent};
+ghost use Rattle.media.specs.Tray.{tray-count, tray-page, tray-put, tray-torn, tray-coding};
+ghost use Rattle.media.specs.Tray.{of-tray, tray-means, tray-inorder, tray-reads, tray-store};
 use crate::lent::overwrite;
 use crate::lent::pages_in;
 use medium::Cause;
@@ -35,7 +36,8 @@ fn copy_out(bytes: &[u8], page: u16, into: &mut [u8]) -> Result<(), Cause>
     requires within { ⌜ page < tray-count (now bytes) ⌝ }
     requires len { ⌜ length (now into) ≡ 256 ⌝ }
     ensures answer { λ r. ⌜ r ≡ plainly (readable (tray-page (now (bytes .entry)) page)) ⌝ }
-    ensures buffer { λ _. ⌜ now (into .exit) ≡ filled (now (into .entry)) (readable (tray-page (now (bytes .entry)) page)) ⌝ }
+    ensures buffer { λ _. ⌜ now (into .exit)
+        ≡ filled (now (into .entry)) (readable (tray-page (now (bytes .entry)) page)) ⌝ }
 {
     let start = page as usize * STRIDE;
     if bytes[start + PAGE] != WHOLE {
@@ -91,15 +93,17 @@ impl<'a> Tray<'a> {
     }
 
     fn fetch(&self, page: u16, into: &mut [u8]) -> Result<(), Cause>
-        ensures answer { λ r. ⌜ r ≡ plainly (reads-lent tray-coding (of-tray (now (self .entry))) page (length (now (into .entry)))) ⌝ }
-        ensures buffer { λ _. ⌜ now (into .exit) ≡ filled (now (into .entry)) (reads-lent tray-coding (of-tray (now (self .entry))) page (length (now (into .entry)))) ⌝ }
+        ensures answer { λ r. ⌜ r ≡ plainly (tray-reads (now (self .entry)) page (length (now (into .entry)))) ⌝ }
+        ensures buffer { λ _. ⌜ now (into .exit)
+            ≡ filled (now (into .entry)) (tray-reads (now (self .entry)) page (length (now (into .entry)))) ⌝ }
     {
         self.check(page, into.len())?;
         copy_out(self.bytes, page, into)
     }
 
     fn store(&mut self, page: u16, from: &[u8]) -> Result<(), Cause>
-        ensures exact { λ r. ⌜ Gives (store tray-coding (of-tray (now (self .entry))) page (now (from .entry))) r (of-tray (now (self .exit))) ⌝ }
+        ensures exact { λ r. ⌜ Gives (tray-store (now (self .entry)) page (now (from .entry))) r
+            (of-tray (now (self .exit))) ⌝ }
         ensures lender { λ _. ⌜ name (now (self .exit) .bytes) ≡ name (now (self .entry) .bytes) ⌝ }
     {
         self.check(page, from.len())?;
@@ -118,6 +122,8 @@ impl<'a> Tray<'a> {
     }
 }
 
+// Besides what a medium owes, each function says what stands in the lent slice then, to the byte (`exact`), and that it
+// is the same slice (`lender`), so that whoever lent it knows what it holds when the tray is gone.
 pub impl<'a> Medium for Tray<'a> as TrayMedium {
     ghost means = { tray-means };
 
@@ -131,9 +137,13 @@ pub impl<'a> Medium for Tray<'a> as TrayMedium {
 
     fn read(&mut self, page: u16, into: &mut [u8]) -> Result<(), Cause>
         ensures keeps { λ _. ⌜ (tray-inorder (now (self .entry)) → tray-inorder (now (self .exit))) ⌝ }
-        ensures answer { λ r. ⌜ (tray-inorder (now (self .entry)) → r ≡ plainly (reads (tray-means (now (self .entry))) page (length (now (into .entry))))) ⌝ }
-        ensures buffer { λ _. ⌜ (tray-inorder (now (self .entry)) → now (into .exit) ≡ filled (now (into .entry)) (reads (tray-means (now (self .entry))) page (length (now (into .entry))))) ⌝ }
-        ensures same { λ _. ⌜ (tray-inorder (now (self .entry)) → tray-means (now (self .exit)) ≡ tray-means (now (self .entry))) ⌝ }
+        ensures answer { λ r. ⌜ (tray-inorder (now (self .entry))
+            → r ≡ plainly (reads (tray-means (now (self .entry))) page (length (now (into .entry))))) ⌝ }
+        ensures buffer { λ _. ⌜ (tray-inorder (now (self .entry))
+            → now (into .exit)
+            ≡ filled (now (into .entry)) (reads (tray-means (now (self .entry))) page (length (now (into .entry))))) ⌝ }
+        ensures same { λ _. ⌜ (tray-inorder (now (self .entry))
+            → tray-means (now (self .exit)) ≡ tray-means (now (self .entry))) ⌝ }
         ensures exact { λ _. ⌜ of-tray (now (self .exit)) ≡ of-tray (now (self .entry)) ⌝ }
         ensures lender { λ _. ⌜ name (now (self .exit) .bytes) ≡ name (now (self .entry) .bytes) ⌝ }
     {
@@ -142,8 +152,11 @@ pub impl<'a> Medium for Tray<'a> as TrayMedium {
 
     fn write(&mut self, page: u16, from: &[u8]) -> Result<(), Cause>
         ensures keeps { λ _. ⌜ (tray-inorder (now (self .entry)) → tray-inorder (now (self .exit))) ⌝ }
-        ensures gives { λ r. ⌜ (tray-inorder (now (self .entry)) → Gives (write (tray-means (now (self .entry))) page (now (from .entry))) r (tray-means (now (self .exit)))) ⌝ }
-        ensures exact { λ r. ⌜ Gives (store tray-coding (of-tray (now (self .entry))) page (now (from .entry))) r (of-tray (now (self .exit))) ⌝ }
+        ensures gives { λ r. ⌜ (tray-inorder (now (self .entry))
+            → Gives (write (tray-means (now (self .entry))) page (now (from .entry))) r
+            (tray-means (now (self .exit)))) ⌝ }
+        ensures exact { λ r. ⌜ Gives (tray-store (now (self .entry)) page (now (from .entry))) r
+            (of-tray (now (self .exit))) ⌝ }
         ensures lender { λ _. ⌜ name (now (self .exit) .bytes) ≡ name (now (self .entry) .bytes) ⌝ }
     {
         self.store(page, from)
@@ -151,7 +164,8 @@ pub impl<'a> Medium for Tray<'a> as TrayMedium {
 
     fn relight(&mut self, charge: u32)
         ensures keeps { λ _. ⌜ (tray-inorder (now (self .entry)) → tray-inorder (now (self .exit))) ⌝ }
-        ensures after { λ _. ⌜ (tray-inorder (now (self .entry)) → tray-means (now (self .exit)) ≡ relit (tray-means (now (self .entry))) charge) ⌝ }
+        ensures after { λ _. ⌜ (tray-inorder (now (self .entry))
+            → tray-means (now (self .exit)) ≡ relit (tray-means (now (self .entry))) charge) ⌝ }
         ensures exact { λ _. ⌜ of-tray (now (self .exit)) ≡ relit-lent (of-tray (now (self .entry))) charge ⌝ }
         ensures lender { λ _. ⌜ name (now (self .exit) .bytes) ≡ name (now (self .entry) .bytes) ⌝ }
     {

@@ -1,9 +1,8 @@
 -- What a rule gives: an answer and the state after it, a refusal and the state after it, or a strike, of which only
 -- what it leaves is open. The lists are the flash frames written on the way; a medium by itself tells none.
-use mathlib.Core.List.{List, [], _∷_, _++_}
+use mathlib.Core.List.{List}
 use mathlib.Core.Path.{_≡_}
-use Rattle.medium.specs.Meaning.{Bytes, Page, Left, leaves}
-use Rattle.std.specs.declared.option.Option.the-variants.{Some}
+use Rattle.medium.specs.Meaning.{Bytes, Page, Left}
 use Rattle.std.specs.declared.result.Result.{Result}
 use Rattle.std.specs.declared.result.Result.the-variants.{Ok, Err}
 
@@ -11,9 +10,6 @@ use Rattle.std.specs.declared.result.Result.the-variants.{Ok, Err}
 pub record Wrote : Type 0 where
   pub bytes : Bytes
   pub left : Page
-
-abbrev pub wrote : Bytes → Page → Wrote
-wrote bs l = record { bytes = bs; left = l }
 
 pub data Outcome (E S A : Type 0) : Type 0 where
   done : A → S → List Wrote → Outcome E S A

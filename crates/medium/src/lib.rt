@@ -37,19 +37,25 @@ pub trait Medium {
     // Copies a page into a buffer of 256 bytes; refused, the buffer is untouched.
     fn read(&mut self, page: u16, into: &mut [u8]) -> Result<(), Cause>
         ensures keeps { λ _. ⌜ (inorder (now (self .entry)) → inorder (now (self .exit))) ⌝ }
-        ensures answer { λ r. ⌜ (inorder (now (self .entry)) → r ≡ plainly (reads (means (now (self .entry))) page (length (now (into .entry))))) ⌝ }
-        ensures buffer { λ _. ⌜ (inorder (now (self .entry)) → now (into .exit) ≡ filled (now (into .entry)) (reads (means (now (self .entry))) page (length (now (into .entry))))) ⌝ }
-        ensures same { λ _. ⌜ (inorder (now (self .entry)) → means (now (self .exit)) ≡ means (now (self .entry))) ⌝ };
+        ensures answer { λ r. ⌜ (inorder (now (self .entry))
+            → r ≡ plainly (reads (means (now (self .entry))) page (length (now (into .entry))))) ⌝ }
+        ensures buffer { λ _. ⌜ (inorder (now (self .entry))
+            → now (into .exit)
+            ≡ filled (now (into .entry)) (reads (means (now (self .entry))) page (length (now (into .entry))))) ⌝ }
+        ensures same { λ _. ⌜ (inorder (now (self .entry))
+            → means (now (self .exit)) ≡ means (now (self .entry))) ⌝ };
 
     // Writes a page, or is struck where no charge is left.
     fn write(&mut self, page: u16, from: &[u8]) -> Result<(), Cause>
         ensures keeps { λ _. ⌜ (inorder (now (self .entry)) → inorder (now (self .exit))) ⌝ }
-        ensures gives { λ r. ⌜ (inorder (now (self .entry)) → Gives (write (means (now (self .entry))) page (now (from .entry))) r (means (now (self .exit)))) ⌝ };
+        ensures gives { λ r. ⌜ (inorder (now (self .entry))
+            → Gives (write (means (now (self .entry))) page (now (from .entry))) r (means (now (self .exit)))) ⌝ };
 
     // Power on, for as many writes as the charge says.
     fn relight(&mut self, charge: u32)
         ensures keeps { λ _. ⌜ (inorder (now (self .entry)) → inorder (now (self .exit))) ⌝ }
-        ensures after { λ _. ⌜ (inorder (now (self .entry)) → means (now (self .exit)) ≡ relit (means (now (self .entry))) charge) ⌝ };
+        ensures after { λ _. ⌜ (inorder (now (self .entry))
+            → means (now (self .exit)) ≡ relit (means (now (self .entry))) charge) ⌝ };
 }
 
 // The checks that every read and write makes first, in their order.

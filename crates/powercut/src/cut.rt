@@ -1,9 +1,4 @@
-ghost use mathlib.Core.Path.{_≡_};
-ghost use mathlib.Core.Bool.{true};
-ghost use Prim.Native.Nat.{_<_};
-ghost use lib.ListN.{length};
-ghost use Rattle.medium.specs.Meaning.{size};
-ghost use Rattle.powercut.specs.Cut.{Lives};
+ghost use Rattle.powercut.specs.Cut.{Ready, Lives};
 use medium::Cause;
 use medium::Medium;
 
@@ -27,7 +22,10 @@ pub fn cut_in_write<M: Medium>(
     into: &mut [u8],
 ) -> Cut
     ensures keeps { λ _. ⌜ (M·Medium .inorder (now (medium .entry)) → M·Medium .inorder (now (medium .exit))) ⌝ }
-    ensures lives { λ r. ⌜ (M·Medium .inorder (now (medium .entry)) → M·Medium .means (now (medium .entry)) .lit ≡ true → M·Medium .means (now (medium .entry)) .charge ≡ 0 → page < size (M·Medium .means (now (medium .entry))) → length (now (from .entry)) ≡ 256 → length (now (into .entry)) ≡ 256 → Lives (M·Medium .means (now (medium .entry))) page (now (from .entry)) charge (now (into .entry)) r (M·Medium .means (now (medium .exit))) (now (into .exit))) ⌝ }
+    ensures lives { λ r. ⌜ (M·Medium .inorder (now (medium .entry))
+        → Ready (M·Medium .means (now (medium .entry))) page (now (from .entry)) (now (into .entry))
+        → Lives (M·Medium .means (now (medium .entry))) page (now (from .entry)) charge (now (into .entry)) r
+        (M·Medium .means (now (medium .exit))) (now (into .exit))) ⌝ }
 {
     let write = medium.write(page, from);
     let dark = medium.read(page, into);

@@ -1,5 +1,4 @@
-use mathlib.Core.Path.{_≡_, refl, sym, ap, subst, _∙_}
-use mathlib.Core.Bool.{Bool}
+use mathlib.Core.Path.{_≡_, refl, sym, ap, _∙_}
 use Prim.Native.Nat.{_<_}
 use native.Mathlib.Omega.{arith}
 use lib.ListN.{length}
@@ -23,7 +22,8 @@ pub loop-i-again : need.loop-i-again
 loop-i-again c =
     let lt : c .loop-i .i < length (c .loop-i .into) = omega arith in
     rw (c .content .ensures)
-    (fill-by-more (content (c .args .bytes .now) (c .args .page)) (c .loop-i .into) (c .loop-i .i) 0 lt (c .loop-i .inv))
+    (fill-by-more (content (c .args .bytes .now) (c .args .page)) (c .loop-i .into) (c .loop-i .i) 0 lt
+    (c .loop-i .inv))
 
 pub returns : need.returns
 returns c =

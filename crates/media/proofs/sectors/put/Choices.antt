@@ -1,5 +1,5 @@
 use mathlib.Core.Path.{_≡_}
-use Rattle.media.specs.Card.{next-tick, put-sectors}
+use Rattle.media.specs.Card.{put-sectors}
 use Rattle.media.proofs.sectors.put.Given as given
 
 abbrev pub Inv-loop-sector : given.InvT-loop-sector
