@@ -50,7 +50,7 @@ moved new (Some x) None c d = places (Some new) (Some x) c d
 moved new (Some x) (Some y) None d = places (Some new) (Some x) (Some y) d
 moved new (Some x) (Some y) (Some z) d = places (Some new) (Some x) (Some y) (Some z)
 
--- A new copy takes the place of an older one of its page.
+-- A new copy comes first, and an older one of its page goes.
 abbrev pub kept : Sheet → Copies → Copies
 kept new cs =
     moved new (other (new .page) (cs .first)) (other (new .page) (cs .second))

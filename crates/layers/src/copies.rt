@@ -95,7 +95,7 @@ impl Copies {
             .or(of_page(self.fourth, page))
     }
 
-    // A new copy takes the place of an older one of its page.
+    // A new copy comes first, and an older one of its page goes.
     fn keep(&mut self, new: Sheet)
         ensures { λ _. ⌜ now (self .exit) ≡ kept new (now (self .entry)) ⌝ }
     {

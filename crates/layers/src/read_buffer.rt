@@ -36,8 +36,8 @@ impl<M: Medium> ReadBuffer<M> {
         ensures answer { λ r. ⌜ (M·Medium .inorder (now (self .entry) .below)
             → r ≡ plainly (finds M·Medium (now (self .entry)) page (length (now (into .entry))))) ⌝ }
         ensures buffer { λ _. ⌜ (M·Medium .inorder (now (self .entry) .below)
-            → now (into .exit)
-            ≡ filled (now (into .entry)) (finds M·Medium (now (self .entry)) page (length (now (into .entry))))) ⌝ }
+            → now (into .exit) ≡ filled (now (into .entry))
+            (finds M·Medium (now (self .entry)) page (length (now (into .entry))))) ⌝ }
         ensures same { λ _. ⌜ (M·Medium .inorder (now (self .entry) .below)
             → M·Medium .means (now (self .exit) .below) ≡ M·Medium .means (now (self .entry) .below)) ⌝ }
         ensures spares { λ _. ⌜ Spares (now (self .entry)) (now (self .exit)) page (length (now (into .entry))) ⌝ }
@@ -59,8 +59,8 @@ impl<M: Medium> ReadBuffer<M> {
         ensures answer { λ r. ⌜ (M·Medium .inorder (now (self .entry) .below)
             → r ≡ plainly (finds M·Medium (now (self .entry)) page (length (now (into .entry))))) ⌝ }
         ensures buffer { λ _. ⌜ (M·Medium .inorder (now (self .entry) .below)
-            → now (into .exit)
-            ≡ filled (now (into .entry)) (finds M·Medium (now (self .entry)) page (length (now (into .entry))))) ⌝ }
+            → now (into .exit) ≡ filled (now (into .entry))
+            (finds M·Medium (now (self .entry)) page (length (now (into .entry))))) ⌝ }
         ensures same { λ _. ⌜ (M·Medium .inorder (now (self .entry) .below)
             → M·Medium .means (now (self .exit) .below) ≡ M·Medium .means (now (self .entry) .below)) ⌝ }
         ensures spares { λ _. ⌜ Spares (now (self .entry)) (now (self .exit)) page (length (now (into .entry))) ⌝ }

@@ -56,8 +56,8 @@ impl<M: Medium> Window<M> {
         ensures answer { λ r. ⌜ (M·Medium .inorder (now (self .entry) .below)
             → r ≡ plainly (reads-below M·Medium (now (self .entry)) page (length (now (into .entry))))) ⌝ }
         ensures buffer { λ _. ⌜ (M·Medium .inorder (now (self .entry) .below)
-            → now (into .exit)
-            ≡ filled (now (into .entry)) (reads-below M·Medium (now (self .entry)) page (length (now (into .entry))))) ⌝ }
+            → now (into .exit) ≡ filled (now (into .entry))
+            (reads-below M·Medium (now (self .entry)) page (length (now (into .entry))))) ⌝ }
         ensures below { λ _. ⌜ (M·Medium .inorder (now (self .entry) .below)
             → M·Medium .means (now (self .exit) .below) ≡ M·Medium .means (now (self .entry) .below)) ⌝ }
         ensures fixed { λ _. ⌜ Fixed (now (self .entry)) (now (self .exit)) ⌝ }
@@ -97,8 +97,8 @@ pub impl<M: Medium> Medium for Window<M> as WindowMedium {
         ensures answer { λ r. ⌜ (M·Medium .inorder (now (self .entry) .below)
             → r ≡ plainly (reads (view M·Medium (now (self .entry))) page (length (now (into .entry))))) ⌝ }
         ensures buffer { λ _. ⌜ (M·Medium .inorder (now (self .entry) .below)
-            → now (into .exit)
-            ≡ filled (now (into .entry)) (reads (view M·Medium (now (self .entry))) page (length (now (into .entry))))) ⌝ }
+            → now (into .exit) ≡ filled (now (into .entry))
+            (reads (view M·Medium (now (self .entry))) page (length (now (into .entry))))) ⌝ }
         ensures same { λ _. ⌜ (M·Medium .inorder (now (self .entry) .below)
             → view M·Medium (now (self .exit)) ≡ view M·Medium (now (self .entry))) ⌝ }
         ensures below { λ _. ⌜ (M·Medium .inorder (now (self .entry) .below)

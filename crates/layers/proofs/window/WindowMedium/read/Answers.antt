@@ -6,7 +6,8 @@ use Rattle.layers.proofs.window.WindowMedium.read.Needs as need
 pub returns : need.returns
 returns g c =
     let w = c .args .self .now in
-    let e = reads-through (w .first) (w .count) (c .args .page) (g .M·Medium .means (w .below)) (length (c .args .into .now)) in
+    let m = g .M·Medium .means (w .below) in
+    let e = reads-through (w .first) (w .count) (c .args .page) m (length (c .args .into .now)) in
     let h = c .read-below .ensures in
     record {
       keeps = h .keeps;
