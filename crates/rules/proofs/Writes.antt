@@ -1,0 +1,46 @@
+-- How a write of a medium ends, and what a queue's media keep.
+use mathlib.Core.Path.{_≡_, ap}
+use mathlib.Core.Bool.{Bool, true, false, cond}
+use mathlib.Core.List.{[]}
+use mathlib.Core.Logic.{_⊎_, inl, inr}
+use Prim.Native.Nat.{ℕ, _*_, _≤_, _<_}
+use native.Mathlib.Omega.{arith}
+use lib.Dec.{eqb}
+use lib.ListN.{length}
+use Rattle.std.proofs.shelf.Tests.{cases-bool, lt-leb, eq-eqb}
+use Rattle.medium.specs.declared.Cause.the-variants as cause
+use Rattle.medium.specs.Meaning.{Bytes, Meaning, size}
+use Rattle.medium.specs.Rules.{written, struck-at}
+use Rattle.medium.specs.Outcome.{done, refused, struck}
+use Rattle.medium.specs.Rules.{write}
+use Rattle.rules.specs.Queue.{Queue, groups, frames}
+use Rattle.rules.proofs.Invariant.{History, Sizes, Media}
+use Rattle.rules.proofs.Disk.{saved-less}
+
+-- The three ways of a write of a page's bytes to page i.
+pub data Ends (m : Meaning) (i : ℕ) (bs : Bytes) : Type 0 where
+  kept : m .lit ≡ true → write m i bs ≡ done tt (written m i bs) [] → Ends m i bs
+  hit : write m i bs ≡ struck cause.Dark (struck-at m i bs) (λ w. []) → Ends m i bs
+  unlit : m .lit ≡ false → write m i bs ≡ refused cause.Dark m [] → Ends m i bs
+
+pub ends : (m : Meaning) (i : ℕ) (bs : Bytes) → i < size m → length bs ≡ 256 → Ends m i bs
+ends m i bs lt long = go (cases-bool (m .lit)) (cases-bool (eqb (m .charge) 0))
+  where
+    way : (c : Bool) → m .lit ≡ true → eqb (m .charge) 0 ≡ c
+        → write m i bs ≡ cond c (struck cause.Dark (struck-at m i bs) (λ w. [])) (done tt (written m i bs) [])
+    way c lit e = rw (lit, lt-leb (size m) i lt, eq-eqb (length bs) 256 long, e)
+
+    go : (m .lit ≡ true) ⊎ (m .lit ≡ false) → (eqb (m .charge) 0 ≡ true) ⊎ (eqb (m .charge) 0 ≡ false) → Ends m i bs
+    go (inr off) c = unlit off (rw off)
+    go (inl lit) (inl empty) = hit (way true lit empty)
+    go (inl lit) (inr some) = kept lit (way false lit some)
+
+pub groups-is : (s d : ℕ) (x : Queue) → Sizes s d x → groups (x .flash) ≡ s
+groups-is s d x z = omega (arith, z .flash)
+
+pub frames-is : (s d : ℕ) (x : Queue) → Sizes s d x → frames (x .flash) ≡ 15 * s
+frames-is s d x z = ap (λ n. 15 * n) (groups-is s d x z)
+
+pub media-less : (s d : ℕ) (x : Queue) (h : History) (k f g : ℕ) → g ≤ f → Media s d x h k f → Media s d x h k g
+media-less s d x h k f g le me =
+    record { sizes = me .sizes; written = me .written; framed = me .framed; described = me .described; saved = saved-less (x .disk .pages) h f g le (me .saved) }

@@ -1,0 +1,10 @@
+pub mod Steps
+pub mod Format
+pub mod Search
+pub mod Refusals
+pub mod Queue
+pub mod Recovery
+pub mod Ram
+pub mod Store
+pub mod Book
+pub mod Promise
