@@ -1,4 +1,4 @@
--- A page and its trailer, and back.
+-- A page and its bytes: numbers, trailers and bodies are read back from their bytes.
 use mathlib.Core.Path.{_≡_, refl, sym, ap, ap₂, _∙_}
 use mathlib.Core.Bool.{Bool, true, false, cond}
 use mathlib.Core.List.{[], _∷_, _++_}
@@ -15,10 +15,13 @@ use Rattle.rules.specs.Steps.{same}
 use Rattle.rules.specs.Format.{encode, fields, is-proper, of2, of4}
 use Rattle.rules.proofs.Invariant.{Page, bytes, Good, Sound}
 
-joined : (n a b c w x y z : ℕ) → n ≡ 256 * a + w → a ≡ 256 * b + x → b ≡ 256 * c + y → z ≡ c → w + 256 * x + 65536 * y + 16777216 * z ≡ n
+-- A number below 256 to the fourth is read back from its four bytes, one below 256 squared from its two.
+joined : (n a b c w x y z : ℕ) → n ≡ 256 * a + w → a ≡ 256 * b + x → b ≡ 256 * c + y → z ≡ c
+    → w + 256 * x + 65536 * y + 16777216 * z ≡ n
 joined n a b c w x y z e f g t = omega arith
 
-pub of-le4 : (n : ℕ) → n < 4294967296 → n % 256 + 256 * (n / 256 % 256) + 65536 * (n / 65536 % 256) + 16777216 * (n / 16777216 % 256) ≡ n
+pub of-le4 : (n : ℕ) → n < 4294967296
+    → n % 256 + 256 * (n / 256 % 256) + 65536 * (n / 65536 % 256) + 16777216 * (n / 16777216 % 256) ≡ n
 of-le4 n lt =
     let b : n / 65536 ≡ n / 256 / 256 = sym (div-div-eq-div-mul n 256 256) in
     let c : n / 16777216 ≡ n / 65536 / 256 = sym (div-div-eq-div-mul n 65536 256) in
@@ -31,10 +34,12 @@ of-le4 n lt =
 pub of-le2 : (n : ℕ) → n < 65536 → n % 256 + 256 * (n / 256 % 256) ≡ n
 of-le2 n lt = omega arith
 
+-- A trailer has sixteen bytes.
 pub length-encode : (t : Trailer) → length (encode t) ≡ 16
 unfolding encode
 length-encode t = refl
 
+-- The test `same` holds of equal bytes, and of no others.
 pub same-self : (bs : Bytes) → same bs bs ≡ true
 same-self [] = refl
 same-self (x ∷ xs) = and-from (eqb x x) (same xs xs) (eq-eqb x x refl) (same-self xs)
@@ -47,6 +52,7 @@ same-is (x ∷ xs) (y ∷ ys) e =
     let (a, b) = and-parts (eqb x y) (same xs ys) e in
     ap₂ (λ u us. u ∷ us) (eqb-true x y a) (same-is xs ys b)
 
+-- The byte that says whether a page is dirty.
 dirty-byte : (b : Bool) → eqb (cond b 1 0) 1 ≡ b
 dirty-byte true = refl
 dirty-byte false = refl
@@ -55,33 +61,39 @@ dirty-low : (b : Bool) → cond b 1 0 ≤ 1
 dirty-low true = omega arith
 dirty-low false = omega arith
 
--- the bytes ts stand in bs from o on
+-- The bytes ts stand in bs from o on.
 abbrev pub At : Bytes → ℕ → Bytes → Type 0
 At bs o ts = (i : ℕ) → i < length ts → getD bs (o + i) 0 ≡ getD ts i 0
 
+pub at-end : (xs ts : Bytes) (o : ℕ) → length xs ≡ o → At (xs ++ ts) o ts
+at-end xs ts o long i lt =
+    getD-append-right xs ts o (o + i) 0 long (omega arith) ∙ ap (λ k. getD ts k 0) (omega arith)
+
 pub at-part : (xs ts ys : Bytes) (o : ℕ) → length xs ≡ o → At (xs ++ (ts ++ ys)) o ts
 at-part xs ts ys o long i lt =
-    getD-append-right xs (ts ++ ys) o (o + i) 0 long (omega arith) ∙ ap (λ k. getD (ts ++ ys) k 0) (omega arith) ∙ getD-append-left ts ys 0 i lt
+    at-end xs (ts ++ ys) o long i (omega (arith, length-append ts ys)) ∙ getD-append-left ts ys 0 i lt
 
-pub at-end : (xs ts : Bytes) (o : ℕ) → length xs ≡ o → At (xs ++ ts) o ts
-at-end xs ts o long i lt = getD-append-right xs ts o (o + i) 0 long (omega arith) ∙ ap (λ k. getD ts k 0) (omega arith)
+-- A byte there, and a number of four bytes and of two.
+at-byte : (bs ts : Bytes) (o j k : ℕ) → At bs o ts → k ≡ o + j → j < length ts → getD bs k 0 ≡ getD ts j 0
+at-byte bs ts o j k at is lt = ap (λ i. getD bs i 0) is ∙ at j lt
 
 pub at-of4 : (bs ts : Bytes) (o j k : ℕ) → At bs o ts → k ≡ o + j → j + 3 < length ts → of4 bs k ≡ of4 ts j
 at-of4 bs ts o j k at is lt =
-    let a : getD bs k 0 ≡ getD ts j 0 = ap (λ i. getD bs i 0) is ∙ at j (omega arith) in
-    let b : getD bs (k + 1) 0 ≡ getD ts (j + 1) 0 = ap (λ i. getD bs i 0) (omega arith) ∙ at (j + 1) (omega arith) in
-    let c : getD bs (k + 2) 0 ≡ getD ts (j + 2) 0 = ap (λ i. getD bs i 0) (omega arith) ∙ at (j + 2) (omega arith) in
-    let d : getD bs (k + 3) 0 ≡ getD ts (j + 3) 0 = ap (λ i. getD bs i 0) (omega arith) ∙ at (j + 3) (omega arith) in
+    let a = at-byte bs ts o j k at is (omega arith) in
+    let b = at-byte bs ts o (j + 1) (k + 1) at (omega arith) (omega arith) in
+    let c = at-byte bs ts o (j + 2) (k + 2) at (omega arith) (omega arith) in
+    let d = at-byte bs ts o (j + 3) (k + 3) at (omega arith) (omega arith) in
     omega arith
 
 pub at-of2 : (bs ts : Bytes) (o j k : ℕ) → At bs o ts → k ≡ o + j → j + 1 < length ts → of2 bs k ≡ of2 ts j
 at-of2 bs ts o j k at is lt =
-    let a : getD bs k 0 ≡ getD ts j 0 = ap (λ i. getD bs i 0) is ∙ at j (omega arith) in
-    let b : getD bs (k + 1) 0 ≡ getD ts (j + 1) 0 = ap (λ i. getD bs i 0) (omega arith) ∙ at (j + 1) (omega arith) in
+    let a = at-byte bs ts o j k at is (omega arith) in
+    let b = at-byte bs ts o (j + 1) (k + 1) at (omega arith) (omega arith) in
     omega arith
 
--- the fields where a trailer stands
-module _ (p : ℕ) (few : p ≤ 240) (t : Trailer) (high : t .q ≤ 4000000000) (go : Good p t) (bs : Bytes) (o : ℕ) (at : At bs o (encode t)) where
+-- A good trailer stands in bs from o on: its fields are read back, and are proper.
+module _ (p : ℕ) (few : p ≤ 240) (t : Trailer) (high : t .q ≤ 4000000000) (go : Good p t)
+    (bs : Bytes) (o : ℕ) (at : At bs o (encode t)) where
   q-is : of4 bs o ≡ t .q
   unfolding encode
   q-is = at-of4 bs (encode t) o 0 o at (omega arith) (omega arith) ∙ of-le4 (t .q) (omega arith)
@@ -110,21 +122,27 @@ module _ (p : ℕ) (few : p ≤ 240) (t : Trailer) (high : t .q ≤ 4000000000) 
   dirty-is = ap (λ n. eqb n 1) dirty-at ∙ dirty-byte (t .dirty)
 
   pub fields-at : fields bs o ≡ t
-  fields-at = λ i. record { q = q-is i; back = back-is i; version = version-is i; page = page-is i; dirty = dirty-is i }
+  fields-at =
+      λ i. record { q = q-is i; back = back-is i; version = version-is i; page = page-is i; dirty = dirty-is i }
 
   pub proper-at : 1 ≤ t .q → is-proper p bs o ≡ true
   proper-at one =
-      and-from _ _ (and-from _ _ (le-leb 1 (of4 bs o) (omega (arith, q-is))) (le-leb (of4 bs o) 4000000000 (omega (arith, q-is))))
-      (and-from _ _ (and-from _ _ (le-leb 1 (of4 bs (o + 8)) (omega (arith, version-is, go .some))) (le-leb (of4 bs (o + 8)) 4000000000 (omega (arith, version-is, go .few))))
+      let dirty-le = dirty-low (t .dirty) in
+      and-from _ _
+      (and-from _ _ (le-leb 1 (of4 bs o) (omega (arith, q-is))) (le-leb (of4 bs o) 4000000000 (omega (arith, q-is))))
+      (and-from _ _
+      (and-from _ _ (le-leb 1 (of4 bs (o + 8)) (omega (arith, version-is, go .some)))
+      (le-leb (of4 bs (o + 8)) 4000000000 (omega (arith, version-is, go .few))))
       (and-from _ _ (lt-ltb (of4 bs (o + 4)) (of4 bs o) (omega (arith, q-is, back-is, go .back)))
       (and-from _ _ (lt-ltb (of2 bs (o + 12)) p (omega (arith, page-is, go .page)))
-      (and-from _ _ (le-leb (getD bs (o + 14) 0) 1 (omega (arith, dirty-at, dirty-low (t .dirty)))) (eq-eqb (getD bs (o + 15) 0) 1 mark-at)))))
+      (and-from _ _ (le-leb (getD bs (o + 14) 0) 1 (omega (arith, dirty-at)))
+      (eq-eqb (getD bs (o + 15) 0) 1 mark-at)))))
 
--- a page of the history
+-- The bytes of a page of the history.
 module _ (p : ℕ) (few : p ≤ 240) (e : Page) (high : e .trailer .q ≤ 4000000000) (so : Sound p e) where
   pub bytes-long : length (bytes e) ≡ 256
   unfolding bytes
-  bytes-long = length-append (e .body) (encode (e .trailer)) ∙ ap (λ n. length (e .body) + n) (length-encode (e .trailer)) ∙ omega (arith, so .long)
+  bytes-long = simp (length-append, length-encode) (omega (arith, so .long))
 
   pub bytes-body : take 240 (bytes e) ≡ e .body
   unfolding bytes

@@ -18,6 +18,7 @@ pub mod Frame
 pub mod Keeps
 pub mod Fetch
 pub mod Calls
+pub mod Restarts
 pub mod Theorem
 pub mod Example
 pub mod Promised

@@ -1,4 +1,4 @@
--- A mount: the queue goes on with the same history.
+-- A mount: the queue goes on with the same history. What `recover` gives, on media at rest with the flash lit.
 use mathlib.Core.Path.{_≡_, refl, sym, ap, ap₂, subst, _∙_}
 use mathlib.Core.Bool.{Bool, true, false, cond}
 use mathlib.Core.List.{List, []}
@@ -17,101 +17,152 @@ use Rattle.rules.specs.declared.state.Mounted.{Mounted}
 use Rattle.rules.specs.declared.trailer.Trailer.{Trailer}
 use Rattle.rules.specs.Format.{Segment}
 use Rattle.rules.specs.Queue.{Queue, groups, frames, live, write-segment}
-use Rattle.rules.specs.Recovery.{Tail, read-segments, newest, last-of, front-of, read-tail, gather, front-at, settle, with-directory, with-tail, with-segments, recover}
+use Rattle.rules.specs.Recovery.{Tail, Entries, read-segments, newest, last-of, front-of, read-tail, gather, front-at}
+use Rattle.rules.specs.Recovery.{settle, with-directory, with-tail, with-segments, recover}
 use Rattle.rules.proofs.Invariant.{History, Directory, Stored, Rests, Open, Serving, first, trailers}
 use Rattle.rules.proofs.Bytes.{length-trailers}
 use Rattle.rules.proofs.Append.{Settled, segment-gives}
 use Rattle.rules.proofs.Reread.{top-of, Seen, segments-read, newest-top, tail-read, gathered}
 
+-- What a recovery of x may come to. Done: the queue serves, its disk is as it was, and the answer has the last number
+-- and the count of reads. It is never refused. Struck: the media are at rest.
 abbrev pub Recovered : Queue → History → ℕ → Outcome Fault Queue Mounted → Type 0
 Recovered x h k (done a y ws) =
-    (ws ≡ []) × ((j : ℕ) × Serving (groups (x .flash)) (size (x .disk)) y h j) × (y .disk ≡ x .disk) × (a .last ≡ length h)
+    (ws ≡ [])
+    × ((j : ℕ) × Serving (groups (x .flash)) (size (x .disk)) y h j)
+    × (y .disk ≡ x .disk)
+    × (a .last ≡ length h)
     × (a .reads ≡ groups (x .flash) + 1 + min (length h - 15 * k + 1) 15)
 Recovered x h k (refused e y ws) = ⊥
-Recovered x h k (struck e f ws) = (w : Left) → (ws w ≡ []) × ((j : ℕ) × Rests (groups (x .flash)) (size (x .disk)) (f w) h j)
+Recovered x h k (struck e f ws) =
+    (w : Left) → (ws w ≡ []) × ((j : ℕ) × Rests (groups (x .flash)) (size (x .disk)) (f w) h j)
 
+-- The last of k segments: its last number, and its front, which is not past the queue's.
 last-top : (s : ℕ) (h : History) (k : ℕ) → last-of (top-of s h k) ≡ 15 * k
 last-top s h zero = refl
 last-top s h (suc k) = omega arith
 
-front-top : (s : ℕ) (h : History) (k : ℕ) → 15 * k ≤ length h → front-of (top-of s h k) ≤ first (15 * s) (length h)
+front-top : (s : ℕ) (h : History) (k : ℕ) → 15 * k ≤ length h
+    → front-of (top-of s h k) ≤ first (15 * s) (length h)
 front-top s h zero le = omega arith
 front-top s h (suc k) le = omega arith
 
-module _ (x : Queue) (h : History) (k : ℕ) (me : Rests (groups (x .flash)) (size (x .disk)) x h k) (lit : x .flash .lit ≡ true) where
-  low : 2 ≤ groups (x .flash)
+module _ (x : Queue) (h : History) (k : ℕ) (me : Rests (groups (x .flash)) (size (x .disk)) x h k)
+    (lit : x .flash .lit ≡ true) where
+  -- The groups of the flash, the pages of the disk, and the front that is sought.
+  abbrev s : ℕ
+  s = groups (x .flash)
+
+  abbrev d : ℕ
+  d = size (x .disk)
+
+  abbrev front : ℕ
+  front = first (frames (x .flash)) (length h)
+
+  -- The trailers of the numbers after the last segment, as the tail has them.
+  abbrev after : List Trailer
+  after = trailers h (length h - 15 * k) (15 * k + 1)
+
+  abbrev tail : Tail
+  tail = record { trailers = after; reads = min (length h - 15 * k + 1) 15 }
+
+  low : 2 ≤ s
   low = me .sizes .least
 
-  settled-is : (a : Mounted) (y : Queue) → y .disk ≡ x .disk → y .flash .lit ≡ true → a .last ≡ length h → a .reads ≡ groups (x .flash) + 1 + min (length h - 15 * k + 1) 15 → (o : Outcome Fault Queue (Unit {0})) → Settled (groups (x .flash)) (size (x .disk)) y h o → Recovered x h k (settle x a o)
+  count : length after ≡ length h - 15 * k
+  count = length-trailers h (length h - 15 * k) (15 * k + 1)
+
+  -- After the write of a missing segment.
+  settled-is : (a : Mounted) (y : Queue) → y .disk ≡ x .disk → y .flash .lit ≡ true → a .last ≡ length h
+      → a .reads ≡ s + 1 + tail .reads → (o : Outcome Fault Queue (Unit {0})) → Settled s d y h o
+      → Recovered x h k (settle x a o)
   settled-is a y same on la re (done u z ws) (nil, sv, kept) = (nil, sv, kept ∙ same, la, re)
   settled-is a y same on la re (refused e z ws) off = let z : _≡_ {A = ℕ} 0 1 = cc in omega arith
   settled-is a y same on la re (struck e f ws) left =
       λ w. let (nil, (j, rests), kept) = left w in
-      (nil, (j, subst (λ d. Stored (groups (x .flash)) (size (x .disk)) (f w .flash .pages) (d .pages) h j (first (frames (x .flash)) (length h))) (kept ∙ same) rests))
+      (nil, (j, subst (λ m. Stored s d (f w .flash .pages) (m .pages) h j front) (kept ∙ same) rests))
 
-  module _ (g : Option Segment) (last-is : last-of g ≡ 15 * k) (front-le : front-of g ≤ first (frames (x .flash)) (length h)) (es : List (Option Trailer)) (di : Directory es (frames (x .flash)) (first (frames (x .flash)) (length h)) h) where
-    count : length (trailers h (length h - 15 * k) (15 * k + 1)) ≡ length h - 15 * k
-    count = length-trailers h (length h - 15 * k) (15 * k + 1)
+  -- The segment pages, as they are read.
+  abbrev All-seen : List (Option Segment) → Type 0
+  All-seen gs = (i : ℕ) → i < s + 1 → Seen (x .flash) h k i (getD gs i None)
 
-    r-is : last-of g + length (trailers h (length h - 15 * k) (15 * k + 1)) ≡ length h
-    r-is = omega (arith, count, me .described .low)
+  read-all : (gs : List (Option Segment)) × (read-segments (x .flash) d (s + 1) 0 ≡ Ok gs)
+      × (length gs ≡ s + 1) × All-seen gs
+  read-all = segments-read (x .flash) d h k low (me .sizes .few) lit (me .written) (me .framed) (me .described)
 
-    f-is : front-at (x .flash) g (last-of g + length (trailers h (length h - 15 * k) (15 * k + 1))) ≡ first (frames (x .flash)) (length h)
-    f-is = omega (arith, r-is)
+  module _ (gs : List (Option Segment)) (len : length gs ≡ s + 1) (each : All-seen gs) where
+    top : newest gs ≡ top-of s h k
+    top = newest-top (x .flash) d h k low (me .sizes .few) lit (me .written) (me .framed) (me .described) gs len each
 
-    ready : Queue
-    ready = record { flash = x .flash; disk = x .disk; front = front-at (x .flash) g (last-of g + length (trailers h (length h - 15 * k) (15 * k + 1))); last = last-of g + length (trailers h (length h - 15 * k) (15 * k + 1)); entries = es }
+    last-is : last-of (newest gs) ≡ 15 * k
+    last-is = ap last-of top ∙ last-top s h k
 
-    ready-open : Open (groups (x .flash)) (size (x .disk)) ready h k (first (frames (x .flash)) (length h))
-    unfolding ready
-    ready-open = record { media = me; front = f-is; last = r-is; directory = di }
+    tail-is : read-tail (x .flash) d 15 (last-of (newest gs) + 1) ≡ Ok tail
+    tail-is =
+        ap (λ b. read-tail (x .flash) d 15 (b + 1)) last-is
+        ∙ tail-read (x .flash) d h k low (me .sizes .few) lit (me .written) (me .framed) (me .described)
 
-    tail : Tail
-    tail = record { trailers = trailers h (length h - 15 * k) (15 * k + 1); reads = min (length h - 15 * k + 1) 15 }
+    -- The last number and the front that are found.
+    abbrev r : ℕ
+    r = last-of (newest gs) + length after
 
-    with-ready : Recovered x h k (with-directory x g tail (Ok es))
-    unfolding tail ready
-    with-ready = go (eqb (length (trailers h (length h - 15 * k) (15 * k + 1))) 15) refl
-      where
-        a : Mounted
-        a = record { last = last-of g + length (trailers h (length h - 15 * k) (15 * k + 1)); live = live ready; reads = groups (x .flash) + 1 + min (length h - 15 * k + 1) 15 }
+    abbrev f : ℕ
+    f = front-at (x .flash) (newest gs) r
 
-        go : (c : Bool) → eqb (length (trailers h (length h - 15 * k) (15 * k + 1))) 15 ≡ c → Recovered x h k (cond c (settle x a (write-segment ready)) (done a ready []))
-        go true e =
-            let n = eqb-true (length (trailers h (length h - 15 * k) (15 * k + 1))) 15 e in
-            settled-is a ready refl lit r-is refl (write-segment ready)
-            (segment-gives (groups (x .flash)) (size (x .disk)) ready h k ready-open (omega (arith, count)) (omega (arith, count)))
-        go false e =
-            let n = eqb-false (length (trailers h (length h - 15 * k) (15 * k + 1))) 15 e in
-            (refl, (k, record { running = ready-open; settled = omega (arith, count, me .described .high, n) }), refl, r-is, refl)
+    r-is : r ≡ length h
+    r-is = omega (arith, count, last-is, me .described .low)
 
-  after-segments : (gs : List (Option Segment)) → length gs ≡ groups (x .flash) + 1 → ((i : ℕ) → i < groups (x .flash) + 1 → Seen (x .flash) h k i (getD gs i None)) → Recovered x h k (with-segments x (Ok gs))
-  unfolding tail
-  after-segments gs len each =
-      let p = size (x .disk) in
-      let few = me .sizes .few in
-      let wr = me .written in
-      let fr = me .framed in
-      let ds = me .described in
-      let top = newest-top (x .flash) p h k low few lit wr fr ds gs len each in
-      let last-is : last-of (newest gs) ≡ 15 * k = ap last-of top ∙ last-top (groups (x .flash)) h k in
-      let front-le : front-of (newest gs) ≤ first (frames (x .flash)) (length h) = omega (arith, ap front-of top, front-top (groups (x .flash)) h k (ds .low)) in
-      let (es, is, di) = gathered (x .flash) p h k low few lit wr fr ds gs len each (omega (arith, me .sizes .most)) (length h + 1 - first (frames (x .flash)) (length h)) (first (frames (x .flash)) (length h)) (omega arith) (omega arith) in
-      let rr = r-is (newest gs) last-is front-le es di in
-      let ff = f-is (newest gs) last-is front-le es di in
-      let nn : last-of (newest gs) + length (trailers h (length h - 15 * k) (15 * k + 1)) + 1 - front-at (x .flash) (newest gs) (last-of (newest gs) + length (trailers h (length h - 15 * k) (15 * k + 1))) ≡ length h + 1 - first (frames (x .flash)) (length h) = ap₂ (λ a b. a + 1 - b) rr ff in
-      subst (λ t. Recovered x h k (with-tail x gs t)) (sym (ap (λ b. read-tail (x .flash) p 15 (b + 1)) last-is ∙ tail-read (x .flash) p h k low few lit wr fr ds))
-      (subst (λ e. Recovered x h k (with-directory x (newest gs) (tail (newest gs) last-is front-le es di) e))
-      (sym ((λ i. gather (x .flash) gs (last-is i) (trailers h (length h - 15 * k) (15 * k + 1)) (nn i) (ff i)) ∙ is))
-      (with-ready (newest gs) last-is front-le es di))
+    f-is : f ≡ front
+    f-is = omega (arith, r-is, ap front-of top, front-top s h k (me .described .low))
+
+    -- The directory, by the numbers that are sought, and by those that are found.
+    sought : (es : Entries) × (gather (x .flash) gs (15 * k) after (length h + 1 - front) front ≡ Ok es)
+        × Directory es (frames (x .flash)) front h
+    sought =
+        gathered (x .flash) d h k low (me .sizes .few) lit (me .written) (me .framed) (me .described) gs len each
+        (omega (arith, me .sizes .most)) (length h + 1 - front) front (omega arith) (omega arith)
+
+    entries : (es : Entries) × (gather (x .flash) gs (last-of (newest gs)) after (r + 1 - f) f ≡ Ok es)
+        × Directory es (frames (x .flash)) front h
+    entries =
+        let (es, is, di) = sought in
+        let live-is : r + 1 - f ≡ length h + 1 - front = ap₂ (λ a b. a + 1 - b) r-is f-is in
+        (es, (λ i. gather (x .flash) gs (last-is i) after (live-is i) (f-is i)) ∙ is, di)
+
+    -- The queue with its directory, which may still lack its last segment.
+    module _ (es : Entries) (di : Directory es (frames (x .flash)) front h) where
+      abbrev ready : Queue
+      ready = record { flash = x .flash; disk = x .disk; front = f; last = r; entries = es }
+
+      ready-open : Open s d ready h k front
+      ready-open = record { media = me; front = f-is; last = r-is; directory = di }
+
+      abbrev answer : Mounted
+      answer = record { last = r; live = live ready; reads = s + 1 + tail .reads }
+
+      by-count : (c : Bool) → eqb (length after) 15 ≡ c
+          → Recovered x h k (cond c (settle x answer (write-segment ready)) (done answer ready []))
+      by-count true e =
+          let n = eqb-true (length after) 15 e in
+          settled-is answer ready refl lit r-is refl (write-segment ready)
+          (segment-gives s d ready h k ready-open (omega (arith, count)) (omega (arith, count)))
+      by-count false e =
+          let n = eqb-false (length after) 15 e in
+          let settled : length h < 15 * k + 15 = omega (arith, count, me .described .high) in
+          (refl, (k, record { running = ready-open; settled = settled }), refl, r-is, refl)
+
+    after-segments : Recovered x h k (with-segments x (Ok gs))
+    after-segments =
+        let (es, is, di) = entries in
+        subst (λ t. Recovered x h k (with-tail x gs t)) (sym tail-is)
+        (subst (λ e. Recovered x h k (with-directory x (newest gs) tail e)) (sym is) (by-count es di _ refl))
 
   pub recover-gives : Recovered x h k (recover x)
   recover-gives =
-      let (gs, is, len, each) = segments-read (x .flash) (size (x .disk)) h k low (me .sizes .few) lit (me .written) (me .framed) (me .described) in
+      let (gs, is, len, each) = read-all in
       subst (λ r. Recovered x h k (with-segments x r)) (sym is) (after-segments gs len each)
 
-  -- the last number that the newest segment describes
-  pub newest-last : (gs : List (Option Segment)) × (read-segments (x .flash) (size (x .disk)) (groups (x .flash) + 1) 0 ≡ Ok gs) × (last-of (newest gs) ≡ 15 * k)
-  newest-last =
-      let (gs, is, len, each) = segments-read (x .flash) (size (x .disk)) h k low (me .sizes .few) lit (me .written) (me .framed) (me .described) in
-      (gs, is, ap last-of (newest-top (x .flash) (size (x .disk)) h k low (me .sizes .few) lit (me .written) (me .framed) (me .described) gs len each) ∙ last-top (groups (x .flash)) h k)
+  -- The last number that the newest segment describes.
+  pub newest-last : (gs : List (Option Segment))
+      × (read-segments (x .flash) (size (x .disk)) (groups (x .flash) + 1) 0 ≡ Ok gs) × (last-of (newest gs) ≡ 15 * k)
+  newest-last = let (gs, is, len, each) = read-all in (gs, is, last-is gs len each)
