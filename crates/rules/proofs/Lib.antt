@@ -20,5 +20,6 @@ pub mod Fetch
 pub mod Calls
 pub mod Restarts
 pub mod Theorem
-pub mod Example
 pub mod Promised
+pub mod Quiet
+pub mod Durability

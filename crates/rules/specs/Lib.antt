@@ -8,3 +8,4 @@ pub mod Ram
 pub mod Store
 pub mod Book
 pub mod Promise
+pub mod Durable

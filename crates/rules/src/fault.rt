@@ -1,5 +1,5 @@
 ghost use mathlib.Core.Path.{_≡_};
-ghost use Rattle.rules.specs.Refusals.{number-of};
+ghost use Rattle.rules.specs.Refusals.{number-of, word-of, has-place};
 
 // The two media of a store.
 #[derive(Clone, Copy, PartialEq, Eq, Debug)]
@@ -65,6 +65,42 @@ impl Refusal {
             Refusal::Foreign => 9,
             Refusal::Stale => 10,
             Refusal::Length => 11,
+        }
+    }
+
+    pub fn word(self) -> &'static str
+        ensures { λ r. ⌜ now r ≡ word-of self ⌝ }
+    {
+        match self {
+            Refusal::Dark => "dark",
+            Refusal::Shut => "shut",
+            Refusal::Up => "up",
+            Refusal::Size => "size",
+            Refusal::NoPage => "no page",
+            Refusal::Held => "held",
+            Refusal::AllHeld => "all held",
+            Refusal::Spent => "spent",
+            Refusal::Foreign => "foreign",
+            Refusal::Stale => "stale",
+            Refusal::Length => "length",
+        }
+    }
+
+    // Whether it may say at which page it was met.
+    pub fn has_place(self) -> bool
+        ensures { λ r. ⌜ r ≡ has-place self ⌝ }
+    {
+        match self {
+            Refusal::Dark | Refusal::Foreign => true,
+            Refusal::Shut
+            | Refusal::Up
+            | Refusal::Size
+            | Refusal::NoPage
+            | Refusal::Held
+            | Refusal::AllHeld
+            | Refusal::Spent
+            | Refusal::Stale
+            | Refusal::Length => false,
         }
     }
 }
