@@ -32,7 +32,7 @@ use Rattle.rules.proofs.Entries.{directory-entered}
 use Rattle.rules.proofs.Codec.{bytes-long, bytes-fields}
 use Rattle.rules.proofs.Bytes.{length-segment}
 use Rattle.rules.proofs.Reread.{hist-fields}
-use Rattle.rules.proofs.Writes.{Ends, kept, hit, unlit, ends, groups-is, frames-is, slot-is, media-less}
+use Rattle.rules.proofs.Writes.{Write-ends, kept, hit, unlit, ends, groups-is, frames-is, slot-is, media-less}
 
 -- The pages of a queue's flash and disk.
 abbrev flash : Queue → List (Option Bytes)
@@ -133,7 +133,7 @@ module _ (s d : ℕ) (x : Queue) (h : History) (k : ℕ)
         (k, seated None k (described-torn (flash x) s h k (op .media .sizes .flash) (op .media .described)))
 
     -- The segment's write, however it ends.
-    after-write : Ends (x .flash) (seat s k) bs → Settled s d x h (write-flash x (seat s k) bs)
+    after-write : Write-ends (x .flash) (seat s k) bs → Settled s d x h (write-flash x (seat s k) bs)
     after-write (kept lit is) =
         rw is (
           refl,
@@ -374,7 +374,7 @@ module _ (s d : ℕ) (x : Queue) (h : History) (k : ℕ)
   put i bs = then-do (framed (page (x .flash) i) bs (write-flash x i bs)) (λ a y. describe-due (entered y (e .trailer)))
 
   -- The frame's write, however it ends.
-  after-frame : Ends (x .flash) here (bytes e) → Appended s d x h e (put here (bytes e))
+  after-frame : Write-ends (x .flash) here (bytes e) → Appended s d x h e (put here (bytes e))
   after-frame (kept lit is) =
       rw is
       (finish s d x next h e refl refl _

@@ -31,7 +31,7 @@ use Rattle.rules.proofs.Past.{set-at}
 use Rattle.rules.proofs.Disk.{saved-less, saved-skip, saved-write, saved-torn}
 use Rattle.rules.proofs.Entries.{Valid, valid-is, valid-latest, directory-passed}
 use Rattle.rules.proofs.Codec.{same-self, bytes-long, bytes-end}
-use Rattle.rules.proofs.Writes.{Ends, kept, hit, unlit, ends, frames-is, slot-is, media-less}
+use Rattle.rules.proofs.Writes.{Write-ends, kept, hit, unlit, ends, frames-is, slot-is, media-less}
 
 -- Each page of the disk is as it was, or has its last page of the history.
 abbrev pub Moved : List (Option Bytes) → List (Option Bytes) → History → Type 0
@@ -182,7 +182,7 @@ module _ (s d : ℕ) (x : Queue) (h : History) (k f : ℕ) (op : Open s d x h k 
     abbrev After : Outcome Cause Meaning (Unit {0}) → Type 0
     After o = Gives (then-do (within (of-cause side.Disk p) (with-disk x) o) (λ a y. done tt (passed y) []))
 
-    after-read : Ends (x .disk) p (bytes e) → Gives (saved x (e .trailer) (Ok (bytes e)))
+    after-read : Write-ends (x .disk) p (bytes e) → Gives (saved x (e .trailer) (Ok (bytes e)))
     after-read (kept lit is) =
         subst After (sym is)
         (refl, passed-open (written (x .disk) p (bytes e)) (length-set ps p _) written-saved, moved, refl)

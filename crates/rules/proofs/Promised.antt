@@ -9,7 +9,8 @@ use Rattle.rules.specs.Store.{step}
 use Rattle.rules.proofs.Theorem.{every-run}
 
 -- An outcome that gives an answer and a state ends so, with some frame writes.
-ends-so : {E S A : Type 0} (o : Outcome E S A) (r : Result A E) (t : S) → Gives o r t → (ws : List Wrote) × Ends o r t ws
+ends-so : {E S A : Type 0} (o : Outcome E S A) (r : Result A E) (t : S) → Gives o r t
+    → (ws : List Wrote) × Ends o r t ws
 ends-so (done a s ws) r t g = (ws, (g .0, g .1, refl))
 ends-so (refused e s ws) r t g = (ws, (g .0, g .1, refl))
 ends-so (struck e f ws) r t g = (ws (g .1 .0), (g .0, (g .1 .0, g .1 .1, refl)))

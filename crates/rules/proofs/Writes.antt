@@ -17,20 +17,20 @@ use Rattle.rules.proofs.Invariant.{History, Sizes, Media}
 use Rattle.rules.proofs.Disk.{saved-less}
 
 -- The three ways of a write of a page's bytes to page i.
-pub data Ends (m : Meaning) (i : ℕ) (bs : Bytes) : Type 0 where
-  kept : m .lit ≡ true → write m i bs ≡ done tt (written m i bs) [] → Ends m i bs
-  hit : write m i bs ≡ struck cause.Dark (struck-at m i bs) (λ w. []) → Ends m i bs
-  unlit : m .lit ≡ false → write m i bs ≡ refused cause.Dark m [] → Ends m i bs
+pub data Write-ends (m : Meaning) (i : ℕ) (bs : Bytes) : Type 0 where
+  kept : m .lit ≡ true → write m i bs ≡ done tt (written m i bs) [] → Write-ends m i bs
+  hit : write m i bs ≡ struck cause.Dark (struck-at m i bs) (λ w. []) → Write-ends m i bs
+  unlit : m .lit ≡ false → write m i bs ≡ refused cause.Dark m [] → Write-ends m i bs
 
 -- A write of 256 bytes inside the medium ends in one of them.
-pub ends : (m : Meaning) (i : ℕ) (bs : Bytes) → i < size m → length bs ≡ 256 → Ends m i bs
+pub ends : (m : Meaning) (i : ℕ) (bs : Bytes) → i < size m → length bs ≡ 256 → Write-ends m i bs
 ends m i bs lt long = go (cases-bool (m .lit)) (cases-bool (eqb (m .charge) 0))
   where
     way : (c : Bool) → m .lit ≡ true → eqb (m .charge) 0 ≡ c
         → write m i bs ≡ cond c (struck cause.Dark (struck-at m i bs) (λ w. [])) (done tt (written m i bs) [])
     way c lit e = rw (lit, lt-leb (size m) i lt, eq-eqb (length bs) 256 long, e)
 
-    go : (m .lit ≡ true) ⊎ (m .lit ≡ false) → (eqb (m .charge) 0 ≡ true) ⊎ (eqb (m .charge) 0 ≡ false) → Ends m i bs
+    go : (m .lit ≡ true) ⊎ (m .lit ≡ false) → (eqb (m .charge) 0 ≡ true) ⊎ (eqb (m .charge) 0 ≡ false) → Write-ends m i bs
     go (inr off) c = unlit off (rw off)
     go (inl lit) (inl empty) = hit (way true lit empty)
     go (inl lit) (inr some) = kept lit (way false lit some)
