@@ -9,9 +9,9 @@ use lib.Dec.{ltb}
 use Rattle.std.specs.declared.option.Option.{Option}
 use Rattle.std.specs.declared.option.Option.the-variants.{Some, None}
 use Rattle.std.proofs.shelf.Tests.{ltb-true, ltb-false}
-use Rattle.rules.specs.Search.{names, better, found, highest}
+use Rattle.rules.specs.Search.{names, better, found, highest, found-at}
 use Rattle.rules.proofs.Best.{names-some, some-names}
-use Rattle.ranked.specs.Best.{at-place, place-of, highest-place, Best-at, Best}
+use Rattle.ranked.specs.Best.{at-place, highest-place, Best-at, Best}
 
 module _ {R : Type 0} (pg : R → Option ℕ) (rk : R → ℕ) (p : ℕ) where
   -- The same, where the first record is at place o.
@@ -87,6 +87,6 @@ module _ {R : Type 0} (pg : R → Option ℕ) (rk : R → ℕ) (p : ℕ) where
   pub highest-best : (xs : List R) → Best pg rk p xs (highest-place pg rk p xs)
   highest-best xs = go (highest pg rk p xs) (found-best 0 xs)
     where
-      go : (r : Option (ℕ × R)) → Best-from 0 xs r → Best pg rk p xs (place-of pg rk p r)
+      go : (r : Option (ℕ × R)) → Best-from 0 xs r → Best pg rk p xs (found-at r)
       go None b = b
       go (Some (i, x)) (k, at, b) = let e : k ≡ i = omega arith in (x, subst (λ (n : ℕ). Best-at pg rk p xs n x) e b)

@@ -10,8 +10,7 @@ use Rattle.std.specs.declared.option.Option.{Option}
 use Rattle.std.specs.declared.option.Option.the-variants.{Some, None}
 use Rattle.std.proofs.shelf.Lists.{at-drop-more}
 use Rattle.std.proofs.shelf.Ways.{tells}
-use Rattle.rules.specs.Search.{names, better, found}
-use Rattle.ranked.specs.Best.{place-of}
+use Rattle.rules.specs.Search.{names, better, found, found-at}
 use Rattle.ranked.specs.Wins.{beats, wins-over}
 
 module _ {R : Type 0} (pg : R → Option ℕ) (rk : R → ℕ) (p : ℕ) where
@@ -23,7 +22,7 @@ module _ {R : Type 0} (pg : R → Option ℕ) (rk : R → ℕ) (p : ℕ) where
 
   -- The best before, or what was found after it.
   abbrev over : Option ℕ → ℕ → Option (ℕ × R) → Option ℕ
-  over None top r = place-of pg rk p r
+  over None top r = found-at r
   over (Some b) top None = Some b
   over (Some b) top (Some (j, y)) = cond (ltb top (rk y)) (Some j) (Some b)
 
@@ -33,7 +32,7 @@ module _ {R : Type 0} (pg : R → Option ℕ) (rk : R → ℕ) (p : ℕ) where
   joined i None top x None = refl
   joined i None top x (Some (j, y)) = go (ltb (rk x) (rk y))
     where
-      go : (t : Bool) → cond t (Some j) (Some i) ≡ place-of pg rk p (cond t (Some (j, y)) (Some (i, x)))
+      go : (t : Bool) → cond t (Some j) (Some i) ≡ found-at (cond t (Some (j, y)) (Some (i, x)))
       go true = refl
       go false = refl
   joined i (Some b) top x None = refl

@@ -5,7 +5,7 @@ use mathlib.Core.Logic.{_≢_}
 use Prim.Native.Nat.{ℕ, zero, suc, _≤_, _<_}
 use Rattle.std.specs.declared.option.Option.{Option}
 use Rattle.std.specs.declared.option.Option.the-variants.{Some, None}
-use Rattle.rules.specs.Search.{highest}
+use Rattle.rules.specs.Search.{highest, found-at}
 
 -- The record at place i of a list, if there is one.
 abbrev pub at-place : {R : Type 0} → List R → ℕ → Option R
@@ -15,12 +15,8 @@ at-place (x ∷ xs) (suc i) = at-place xs i
 
 module _ {R : Type 0} (page : R → Option ℕ) (rank : R → ℕ) (p : ℕ) where
   -- Where the search finds its record.
-  abbrev pub place-of : Option (ℕ × R) → Option ℕ
-  place-of None = None
-  place-of (Some (i, x)) = Some i
-
   abbrev pub highest-place : List R → Option ℕ
-  highest-place xs = place-of (highest page rank p xs)
+  highest-place xs = found-at (highest page rank p xs)
 
   -- The record x at place i has the page, none that has it has a higher rank, and none before it one as high.
   pub record Best-at (xs : List R) (i : ℕ) (x : R) : Type 0 where

@@ -3,7 +3,8 @@ ghost use Prim.Native.Nat.{ℕ, _<_};
 ghost use lib.ListN.{length};
 ghost use Rattle.std.specs.Options.{Cases as BySome};
 ghost use Rattle.std.specs.declared.option.Option.{Option};
-ghost use Rattle.rules.specs.Queue.{page-of, number};
+ghost use Rattle.rules.specs.Queue.{page-of, number, found-entry};
+ghost use Rattle.rules.specs.Search.{highest as search};
 ghost use Rattle.ranked.specs.Best.{highest-place, Best};
 ghost use Rattle.ranked.specs.Wins.{wins-over};
 use rules::table::Card;
@@ -83,4 +84,22 @@ pub fn highest<R: Ranked>(records: &[R], page: u16) -> Option<usize>
         }
     }
     best
+}
+
+// The frame that has a page, by the cards.
+pub fn frame_of(cards: &[Card], page: u16) -> Option<usize>
+    ensures value { λ r. ⌜ r ≡ highest-place (λ c. c .page) (λ c. c .version) page (now (cards .entry)) ⌝ }
+    ensures within { λ r. ⌜ BySome r (Unit {0}) (λ i. i < length (now (cards .entry))) ⌝ }
+{
+    highest(cards, page)
+}
+
+// The valid entry of a page in a directory: that of its highest number.
+pub fn valid_entry(entries: &[Option<Trailer>], page: u16) -> Option<Trailer>
+    ensures { λ r. ⌜ r ≡ found-entry (search page-of number page (now (entries .entry))) ⌝ }
+{
+    match highest(entries, page) {
+        Some(i) => entries[i],
+        None => None,
+    }
 }

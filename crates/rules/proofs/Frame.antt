@@ -13,9 +13,9 @@ use Rattle.std.specs.declared.option.Option.{Option}
 use Rattle.std.specs.declared.option.Option.the-variants.{Some, None}
 use Rattle.medium.specs.Meaning.{Bytes}
 use Rattle.rules.specs.declared.table.Card.{Card}
-use Rattle.rules.specs.Search.{highest}
+use Rattle.rules.specs.Search.{highest, found-at}
 use Rattle.rules.specs.Ram.{Ram, card-at, body-at, blank, empty, with-frame, put, fresh, no-cards, no-bodies, changed}
-use Rattle.rules.specs.Ram.{in-ram, found-frame, is-free, last-free, or-else}
+use Rattle.rules.specs.Ram.{in-ram, is-free, last-free, or-else}
 use Rattle.rules.specs.Book as book
 use Rattle.rules.specs.Book.{Book, Copy, write-into}
 use Rattle.rules.proofs.Invariant.{Pages, History, Kept, held-copy, InRam}
@@ -112,7 +112,7 @@ module _ (m : Ram) (n : ℕ) (qs : Pages) (b : Book) (h : History) (ir : InRam m
       version : Card → ℕ
       version c = c .version
 
-      go : (r : Option (ℕ × Card)) → Best page version p empty 0 (m .cards) r → Frame-of m p (found-frame r)
+      go : (r : Option (ℕ × Card)) → Best page version p empty 0 (m .cards) r → Frame-of m p (found-at r)
       go None off =
           inl (
             refl,

@@ -8,7 +8,7 @@ use Rattle.std.specs.declared.option.Option.{Option}
 use Rattle.std.specs.declared.option.Option.the-variants.{Some, None}
 use Rattle.medium.specs.Meaning.{Bytes}
 use Rattle.rules.specs.declared.table.Card.{Card}
-use Rattle.rules.specs.Search.{highest}
+use Rattle.rules.specs.Search.{highest, found-at}
 
 -- There is memory for sixteen frames, of which `count` are in use: the cards past these stay empty. `recency` names all
 -- sixteen, the one last taken first.
@@ -65,12 +65,8 @@ to-head m f =
     record { count = m .count; cards = m .cards; bodies = m .bodies; recency = f ∷ without f (m .recency) }
 
 -- The frame that has page p.
-abbrev pub found-frame : Option (ℕ × Card) → Option ℕ
-found-frame None = None
-found-frame (Some (i, c)) = Some i
-
 abbrev pub in-ram : Ram → ℕ → Option ℕ
-in-ram m p = found-frame (highest (λ c. c .page) (λ c. c .version) p (m .cards))
+in-ram m p = found-at (highest (λ c. c .page) (λ c. c .version) p (m .cards))
 
 -- The last frame in use of a list that nobody holds.
 abbrev pub or-else : Option ℕ → Option ℕ → Option ℕ

@@ -25,3 +25,8 @@ module _ {X : Type 0} (page : X → Option ℕ) (rank : X → ℕ) (p : ℕ) whe
   -- The index of the record, and the record.
   abbrev pub highest : List X → Option (ℕ × X)
   highest xs = found 0 xs
+
+-- Where it was found.
+abbrev pub found-at : {X : Type 0} → Option (ℕ × X) → Option ℕ
+found-at None = None
+found-at (Some (i, x)) = Some i
