@@ -8,7 +8,7 @@ use Rattle.std.specs.declared.option.Option.{Option}
 use Rattle.std.specs.declared.option.Option.the-variants.{Some, None}
 use Rattle.rules.specs.declared.trailer.Trailer.{Trailer}
 use Rattle.rules.specs.Queue.{page-of, number, found-entry}
-use Rattle.rules.specs.Search.{highest, found-at}
+use Rattle.rules.specs.Ranks.{highest, found-at}
 use Rattle.rules.proofs.Best.{Best, highest-best}
 
 module _ (p : ℕ) (es : List (Option Trailer)) where

@@ -9,7 +9,7 @@ use lib.Dec.{ltb}
 use Rattle.std.specs.declared.option.Option.{Option}
 use Rattle.std.specs.declared.option.Option.the-variants.{Some, None}
 use Rattle.std.proofs.shelf.Tests.{ltb-true, ltb-false}
-use Rattle.rules.specs.Search.{names, better, found, highest, found-at}
+use Rattle.rules.specs.Ranks.{names, better, found, highest, found-at}
 use Rattle.rules.proofs.Best.{names-some, some-names}
 use Rattle.ranked.specs.Best.{at-place, highest-place, Best-at, Best}
 

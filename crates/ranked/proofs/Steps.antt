@@ -10,7 +10,7 @@ use Rattle.std.specs.declared.option.Option.{Option}
 use Rattle.std.specs.declared.option.Option.the-variants.{Some, None}
 use Rattle.std.proofs.shelf.Lists.{at-drop-more}
 use Rattle.std.proofs.shelf.Ways.{tells}
-use Rattle.rules.specs.Search.{names, better, found, found-at}
+use Rattle.rules.specs.Ranks.{names, better, found, found-at}
 use Rattle.ranked.specs.Wins.{beats, wins-over}
 
 module _ {R : Type 0} (pg : R → Option ℕ) (rk : R → ℕ) (p : ℕ) where

@@ -1,11 +1,11 @@
--- The search, as its answer is a place in a slice, and in words of order.
+-- The lookup, as its answer is a place in a slice, and in words of order.
 use mathlib.Core.Path.{_≡_}
 use mathlib.Core.List.{List, [], _∷_}
 use mathlib.Core.Logic.{_≢_}
 use Prim.Native.Nat.{ℕ, zero, suc, _≤_, _<_}
 use Rattle.std.specs.declared.option.Option.{Option}
 use Rattle.std.specs.declared.option.Option.the-variants.{Some, None}
-use Rattle.rules.specs.Search.{highest, found-at}
+use Rattle.rules.specs.Ranks.{highest, found-at}
 
 -- The record at place i of a list, if there is one.
 abbrev pub at-place : {R : Type 0} → List R → ℕ → Option R
@@ -14,7 +14,7 @@ at-place (x ∷ xs) zero = Some x
 at-place (x ∷ xs) (suc i) = at-place xs i
 
 module _ {R : Type 0} (page : R → Option ℕ) (rank : R → ℕ) (p : ℕ) where
-  -- Where the search finds its record.
+  -- Where the lookup finds its record.
   abbrev pub highest-place : List R → Option ℕ
   highest-place xs = found-at (highest page rank p xs)
 

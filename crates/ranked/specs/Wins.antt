@@ -1,10 +1,10 @@
--- One step of the search, from the first record on.
+-- One step of the lookup, from the first record on.
 use mathlib.Core.Bool.{Bool, true, _&&_}
 use Prim.Native.Nat.{ℕ}
 use lib.Dec.{ltb}
 use Rattle.std.specs.declared.option.Option.{Option}
 use Rattle.std.specs.declared.option.Option.the-variants.{Some, None}
-use Rattle.rules.specs.Search.{names}
+use Rattle.rules.specs.Ranks.{names}
 
 -- A rank beats the best so far, if there is one, of rank `top`.
 abbrev pub beats : Option ℕ → ℕ → ℕ → Bool

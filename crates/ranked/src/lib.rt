@@ -4,7 +4,7 @@ ghost use lib.ListN.{length};
 ghost use Rattle.std.specs.Options.{Cases as BySome};
 ghost use Rattle.std.specs.declared.option.Option.{Option};
 ghost use Rattle.rules.specs.Queue.{page-of, number, found-entry};
-ghost use Rattle.rules.specs.Search.{highest as search};
+ghost use Rattle.rules.specs.Ranks.{highest as highest-record};
 ghost use Rattle.ranked.specs.Best.{highest-place, Best};
 ghost use Rattle.ranked.specs.Wins.{wins-over};
 use rules::table::Card;
@@ -96,7 +96,7 @@ pub fn frame_of(cards: &[Card], page: u16) -> Option<usize>
 
 // The valid entry of a page in a directory: that of its highest number.
 pub fn valid_entry(entries: &[Option<Trailer>], page: u16) -> Option<Trailer>
-    ensures { λ r. ⌜ r ≡ found-entry (search page-of number page (now (entries .entry))) ⌝ }
+    ensures { λ r. ⌜ r ≡ found-entry (highest-record page-of number page (now (entries .entry))) ⌝ }
 {
     match highest(entries, page) {
         Some(i) => entries[i],

@@ -10,7 +10,7 @@ use lib.ListN.{length, getD}
 use Rattle.std.proofs.shelf.Tests.{eqb-true, eq-eqb, ltb-true, ltb-false}
 use Rattle.std.specs.declared.option.Option.{Option}
 use Rattle.std.specs.declared.option.Option.the-variants.{Some, None}
-use Rattle.rules.specs.Search.{names, better, found, highest}
+use Rattle.rules.specs.Ranks.{names, better, found, highest}
 
 -- The test for a page, both ways.
 pub names-some : (o : Option ℕ) (p : ℕ) → names o p ≡ true → o ≡ Some p

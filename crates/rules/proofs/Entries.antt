@@ -9,7 +9,7 @@ use Rattle.std.proofs.shelf.Lists.{getD-set-other, length-set}
 use Rattle.std.specs.declared.option.Option.{Option}
 use Rattle.std.specs.declared.option.Option.the-variants.{Some, None}
 use Rattle.rules.specs.declared.trailer.Trailer.{Trailer}
-use Rattle.rules.specs.Search.{highest}
+use Rattle.rules.specs.Ranks.{highest}
 use Rattle.rules.specs.Queue.{place, page-of, number, found-entry}
 use Rattle.rules.proofs.Invariant.{Page, History, trailer, In, Latest, Of-entry, Directory, Written}
 use Rattle.rules.proofs.Past.{grown, trailer-old, trailer-new, in-old, in-new, in-grown}

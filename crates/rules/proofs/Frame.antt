@@ -13,7 +13,7 @@ use Rattle.std.specs.declared.option.Option.{Option}
 use Rattle.std.specs.declared.option.Option.the-variants.{Some, None}
 use Rattle.medium.specs.Meaning.{Bytes}
 use Rattle.rules.specs.declared.table.Card.{Card}
-use Rattle.rules.specs.Search.{highest, found-at}
+use Rattle.rules.specs.Ranks.{highest, found-at}
 use Rattle.rules.specs.Ram.{Ram, card-at, body-at, blank, empty, with-frame, put, fresh, no-cards, no-bodies, changed}
 use Rattle.rules.specs.Ram.{in-ram, is-free, last-free, or-else}
 use Rattle.rules.specs.Book as book

@@ -1,6 +1,6 @@
 pub mod Steps
 pub mod Format
-pub mod Search
+pub mod Ranks
 pub mod Refusals
 pub mod Queue
 pub mod Recovery

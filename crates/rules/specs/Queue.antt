@@ -19,7 +19,7 @@ use Rattle.rules.specs.declared.trailer.Trailer.{Trailer}
 use Rattle.rules.specs.Steps.{then-do, within, framed, same}
 use Rattle.rules.specs.Format.{Segment, encode, encode-segment, most}
 use Rattle.rules.specs.Refusals.{plain, touched, of-cause}
-use Rattle.rules.specs.Search.{highest}
+use Rattle.rules.specs.Ranks.{highest}
 
 -- The two media, and what the queue has in memory: the first live number and the last, and the directory, which has the
 -- trailer of each live number in its frame's slot. There are 210 slots; those past the flash's own frames stay empty.

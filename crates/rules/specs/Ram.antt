@@ -8,7 +8,7 @@ use Rattle.std.specs.declared.option.Option.{Option}
 use Rattle.std.specs.declared.option.Option.the-variants.{Some, None}
 use Rattle.medium.specs.Meaning.{Bytes}
 use Rattle.rules.specs.declared.table.Card.{Card}
-use Rattle.rules.specs.Search.{highest, found-at}
+use Rattle.rules.specs.Ranks.{highest, found-at}
 
 -- There is memory for sixteen frames, of which `count` are in use: the cards past these stay empty. `recency` names all
 -- sixteen, the one last taken first.

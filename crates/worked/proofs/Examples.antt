@@ -16,7 +16,7 @@ use Rattle.rules.specs.declared.state.Mounted.{Mounted}
 use Rattle.rules.specs.declared.state.State.the-variants as state
 use Rattle.rules.specs.declared.trailer.Trailer.{Trailer}
 use Rattle.rules.specs.Format.{encode, encode-all, encode-segment, most}
-use Rattle.rules.specs.Search.{highest}
+use Rattle.rules.specs.Ranks.{highest}
 use Rattle.rules.specs.Queue.{Queue, place, page-of, number, found-entry, next}
 use Rattle.rules.specs.Recovery.{no-entries}
 use Rattle.rules.specs.Ram.{card-at, is-held}

@@ -1,4 +1,4 @@
--- The one search: the record of highest rank for a page, the first among equals. A record has a page or none, and a
+-- The one lookup: the record of highest rank for a page, the first among equals. A record has a page or none, and a
 -- rank. It serves directory entries, whose rank is their number, and RAM cards, whose rank is their version.
 use mathlib.Core.Bool.{Bool, false, cond}
 use mathlib.Core.List.{List, [], _∷_}
