@@ -1,3 +1,5 @@
+#![tactic(auto)]
+
 use media::card::Card;
 use media::tray::Tray;
 use session::play::play;

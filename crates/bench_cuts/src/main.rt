@@ -1,3 +1,5 @@
+#![tactic(auto)]
+
 use board::command::Command;
 use board::reply::Reply;
 use media::card::Card;

@@ -1,3 +1,5 @@
+#![tactic(auto)]
+
 use layers::read_buffer::ReadBuffer;
 use layers::window::Window;
 use media::card::Card;

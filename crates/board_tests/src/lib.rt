@@ -1,3 +1,5 @@
+#![tactic(auto)]
+
 // Tests of the board: tables of lines and what they give, written by hand.
 #[cfg(test)]
 mod commands;

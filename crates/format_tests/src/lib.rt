@@ -1,3 +1,5 @@
+#![tactic(auto)]
+
 // Tests of the formats and of what is found by rank: tables of bytes and what they say, written by hand.
 #[cfg(test)]
 mod bounds;

@@ -1,3 +1,5 @@
+#![tactic(auto)]
+
 mod copies;
 pub mod read_buffer;
 pub mod window;

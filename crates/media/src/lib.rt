@@ -1,3 +1,5 @@
+#![tactic(auto)]
+
 pub mod card;
 mod lent;
 mod sectors;

@@ -1,3 +1,5 @@
+#![tactic(auto)]
+
 // Tests of the media and the layers: tables of what is done and what is to be seen then, written by hand.
 #[cfg(test)]
 mod answers;

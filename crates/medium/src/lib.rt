@@ -1,3 +1,5 @@
+#![tactic(auto)]
+
 ghost use Rattle.std.specs.Prelude.{◌≡◌, ◌<◌, length, Ok};
 ghost use Rattle.medium.specs.Meaning.{Meaning, size};
 ghost use Rattle.medium.specs.Outcome.{Gives};

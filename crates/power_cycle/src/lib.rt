@@ -1,2 +1,4 @@
+#![tactic(auto)]
+
 pub mod cut;
 pub mod look;

@@ -1,3 +1,5 @@
+#![tactic(auto)]
+
 mod dequeue;
 mod directory;
 mod enqueue;

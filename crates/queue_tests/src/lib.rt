@@ -1,3 +1,5 @@
+#![tactic(auto)]
+
 // Tests of the queue: a run that fills it past its end twice, cut at every write, and flashes that were damaged.
 #[cfg(test)]
 mod cuts;

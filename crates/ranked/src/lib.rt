@@ -1,3 +1,5 @@
+#![tactic(auto)]
+
 ghost use Rattle.std.specs.Prelude.{◌≡◌, ℕ, ◌<◌, length, IfSome, Option};
 ghost use Rattle.rules.specs.Queue.{page_of, number, found_entry};
 ghost use Rattle.rules.specs.Ranks.{highest as highest_record};

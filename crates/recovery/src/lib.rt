@@ -1,3 +1,5 @@
+#![tactic(auto)]
+
 mod assemble;
 pub mod directory;
 pub mod page;

@@ -1,3 +1,5 @@
+#![tactic(auto)]
+
 mod admit;
 mod calls;
 mod checkpoint;

@@ -1,3 +1,5 @@
+#![tactic(auto)]
+
 // How a program uses a store: over any two media, and with every hold given back on every way.
 ghost use Rattle.store.specs.View.{InOrder};
 

@@ -1,3 +1,5 @@
+#![tactic(auto)]
+
 ghost use Rattle.worked.specs.Examples.{Worked};
 ghost use Rattle.worked.specs.Stories.{Told};
 
