@@ -5,12 +5,12 @@ use Rattle.board.proofs.command.numbers_of.Goals as goal
 
 pub returns : goal.returns
 returns c letter =
-    let a = c.in-ok-first.first.number in
-    let b = c.in-ok-second.second.number in
-    let d = c.in-ok-third.third.number in
-    let more = c.in-ok-third.third.rest.now in
+    let a = c.in_ok-first.first.number in
+    let b = c.in_ok-second.second.number in
+    let d = c.in_ok-third.third.number in
+    let more = c.in_ok-third.third.rest.now in
     ap (command_with letter)
-    (c.in-ok-first.ensures
-    ∙ ap (followed (Some a)) c.in-ok-second.ensures
-    ∙ ap (λ o. followed (Some a) (followed (Some b) o)) c.in-ok-third.ensures)
-    ∙ four_none letter a b d more (some_from more c.if-is-empty-4.ensures)
+    (c.in_ok-first.ensures
+    ∙ ap (followed (Some a)) c.in_ok-second.ensures
+    ∙ ap (λ o. followed (Some a) (followed (Some b) o)) c.in_ok-third.ensures)
+    ∙ four_none letter a b d more (some_from more c.if-is_empty-4.ensures)

@@ -8,6 +8,6 @@ returns c =
     let to = c.args.to in
     let xs = c.args.bytes.now in
     let ys = c.args.part.now in
-    rw c.copy-from-slice.ensures.after
+    rw c.copy_from_slice.ensures.after
     (ap (take to) (sym (append_assoc (take from xs) ys _))
     ∙ take_at (take from xs ++ ys) _ to (simp (length-append, length-take) (omega arith)))

@@ -3,4 +3,4 @@ use Rattle.format.proofs.ending.ending_of.Goals as goal
 
 pub returns : goal.returns
 unfolding ends
-returns c = c.sixteen-of.ensures
+returns c = c.sixteen_of.ensures

@@ -4,18 +4,18 @@ use Rattle.format.specs.Segments.{entries_left}
 use Rattle.format.proofs.Loops.{before, before_none, before_all, before_more, first_of, left_more, left_none}
 use Rattle.format.proofs.entries.entries_in.Goals as goal
 
-pub returns-in-err-entries : goal.returns-in-err-entries
-returns-in-err-entries c =
+pub returns-in_err-entries : goal.returns-in_err-entries
+returns-in_err-entries c =
     let p = c.args.pages in
     let bs = c.args.page.now in
     let q = c.args.first in
     let i = c.loop-i.i in
     let ts = take i c.loop-i.entries in
     let rest = entries_left p bs q (i + 1) in
-    c.from-residual.ensures
+    c.from_residual.ensures
     ∙ sym (c.loop-i.invariant.1
     ∙ ap (before ts) (left_more p bs q i (omega arith))
-    ∙ ap (λ o. before ts (first_of o rest)) (sym c.entry-at.ensures ∙ c.in-err-entries.was)
+    ∙ ap (λ o. before ts (first_of o rest)) (sym c.entry_at.ensures ∙ c.in_err-entries.was)
     ∙ before_none ts)
 
 pub loop-i-preserved : goal.loop-i-preserved
@@ -25,13 +25,13 @@ loop-i-preserved c =
     let q = c.args.first in
     let i = c.loop-i.i in
     let es = c.loop-i.entries in
-    let t = c.in-ok-entries.field-0 in
+    let t = c.in_ok-entries.field-0 in
     let rest = entries_left p bs q (i + 1) in (
       length-set es i t ∙ c.loop-i.invariant.0,
       c.loop-i.invariant.1
           ∙ ap (before (take i es)) (left_more p bs q i (omega arith))
           ∙ ap (λ o. before (take i es) (first_of o rest))
-          (sym c.entry-at.ensures ∙ c.in-ok-entries.was)
+          (sym c.entry_at.ensures ∙ c.in_ok-entries.was)
           ∙ sym (before_more (take i es) t rest)
           ∙ ap (λ ts. before ts rest) (sym (take_more_set es i t (omega arith))),
     )

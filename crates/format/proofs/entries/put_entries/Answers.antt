@@ -16,7 +16,7 @@ more es i xs bs t lt is read was =
 
 pub loop-i-preserved : goal.loop-i-preserved
 loop-i-preserved c =
-    more c.args.entries.now c.loop-i.i _ _ _ (omega arith) c.put-entry.ensures
+    more c.args.entries.now c.loop-i.i _ _ _ (omega arith) c.put_entry.ensures
     (search (rules, get_or_read)) c.loop-i.invariant
 
 pub returns : goal.returns

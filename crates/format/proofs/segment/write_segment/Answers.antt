@@ -7,8 +7,8 @@ use Rattle.format.proofs.segment.write_segment.Goals as goal
 pub returns : goal.returns
 unfolding encode_segment ends
 returns c =
-    let last = c.put-segment.new.into in
+    let last = c.put_segment.new.into in
     record {
-      done = λ l. (refl, sym (take_all 256 last (omega arith)) ∙ c.put-segment.ensures);
+      done = λ l. (refl, sym (take_all 256 last (omega arith)) ∙ c.put_segment.ensures);
       refused = λ no. absurd (no (omega arith));
     }

@@ -3,4 +3,4 @@ use Rattle.format.proofs.trailer.bytes_of.Goals as goal
 
 pub returns : goal.returns
 unfolding encode
-returns c = c.sixteen-of.ensures
+returns c = c.sixteen_of.ensures

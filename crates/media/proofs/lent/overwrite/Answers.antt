@@ -7,5 +7,5 @@ returns c =
     let at = c.args.at in
     let xs = c.args.bytes.now in
     let ys = c.args.part.now in
-    rw c.copy-from-slice.ensures.after
+    rw c.copy_from_slice.ensures.after
     (ap (λ rest. take at xs ++ (ys ++ rest)) (Post-is at (at + length ys) xs (omega arith)))

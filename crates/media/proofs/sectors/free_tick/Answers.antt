@@ -3,7 +3,7 @@ use Rattle.std.proofs.lemmas.Bool.{cases_eq}
 use Rattle.media.specs.Card.{Carried}
 use Rattle.media.proofs.Ticks.{not_all_carried}
 use Rattle.media.proofs.sectors.free_tick.Goals as goal
-use Rattle.media.proofs.sectors.free_tick.Goals.{else-loop-mark-test, then-loop-mark-test+else-not-carried+else·-mark-lt255}
+use Rattle.media.proofs.sectors.free_tick.Goals.{else-loop-mark-test, then-loop-mark-test+else-not-carried+else-mark-lt255}
 
 pub loop-mark-preserved : goal.loop-mark-preserved
 loop-mark-preserved c = λ u lo hi.
@@ -18,5 +18,5 @@ unreachable-requires c =
     let full = not_all_carried c.args.bytes.now c.args.page c.loop-mark.mark in
     elim c.loop-mark-test.branch [
       | else-loop-mark-test w ↦ full (omega arith) c.loop-mark.invariant
-      | then-loop-mark-test+else-not-carried+else·-mark-lt255 w ↦ full (omega arith) c.loop-mark.invariant
+      | then-loop-mark-test+else-not-carried+else-mark-lt255 w ↦ full (omega arith) c.loop-mark.invariant
     ]

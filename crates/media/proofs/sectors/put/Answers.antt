@@ -12,6 +12,6 @@ returns c =
     let bs = c.args.bytes.now in
     let end : c.loop-sector.sector ≡ c.args.sectors = omega arith in
     c.loop-sector.invariant
-    ∙ ap (λ n. put_sectors bs c.args.page c.free-tick-mark.result c.args.from.now n) end
+    ∙ ap (λ n. put_sectors bs c.args.page c.free_tick-mark.result c.args.from.now n) end
     ∙ ap (λ t. put_sectors bs c.args.page t c.args.from.now c.args.sectors)
-    (next_tick_only bs c.args.page c.free-tick-mark.result c.free-tick-mark.ensures)
+    (next_tick_only bs c.args.page c.free_tick-mark.result c.free_tick-mark.ensures)

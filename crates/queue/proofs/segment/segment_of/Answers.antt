@@ -14,7 +14,7 @@ loop-i-preserved c =
     let es = c.loop-i.described in
     let i = c.loop-i.i in
     let ts = c.args.entries.now in
-    let first = c.saturating-sub-first.result in
+    let first = c.saturating_sub-first.result in
     let within : i < length es = omega (arith, c.loop-i.invariant.0) in (
       length-set es i c.trailer_of.result ∙ c.loop-i.invariant.0,
       λ some.

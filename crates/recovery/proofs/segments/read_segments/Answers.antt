@@ -6,23 +6,23 @@ use Rattle.format.specs.Segments.{all_said}
 use Rattle.recovery.proofs.SegmentPages.{ahead, newest_push, table_more, read_more, read_fails, read_all}
 use Rattle.recovery.proofs.segments.read_segments.Goals as goal
 
-pub returns-in-err-segment : goal.returns-in-err-segment
-returns-in-err-segment g c =
+pub returns-in_err-segment : goal.returns-in_err-segment
+returns-in_err-segment g c =
     let m = g.F.Medium.means c.args.flash.now in
     let p = c.args.pages in
     let n = c.args.groups + 1 in
     let i = c.loop-place.place in
     let inv = c.loop-place.invariant in
     let gs = map all_said (take i c.loop-place.places) in
-    let e = c.in-err-segment.field-0.0 in
-    let was = err_from_is_err_and c.from-residual.result c.from-residual.ensures.1 in
+    let e = c.in_err-segment.field-0.0 in
+    let was = err_from_is_err_and c.from_residual.result c.from_residual.ensures.1 in
     rw (was.1, was.2)
     (record {
-      keeps = λ ok. c.read-one.ensures.keeps (inv.3 ok);
-      same = λ ok. c.read-one.ensures.same (inv.3 ok) ∙ inv.4 ok;
+      keeps = λ ok. c.read_one.ensures.keeps (inv.3 ok);
+      same = λ ok. c.read_one.ensures.same (inv.3 ok) ∙ inv.4 ok;
       found =
           λ ok few.
-          let here = c.in-err-segment.ensures.found (inv.3 ok) (ap groups (inv.4 ok) ∙ few) in
+          let here = c.in_err-segment.ensures.found (inv.3 ok) (ap groups (inv.4 ok) ∙ few) in
           sym (read_fails m p n i gs (read_segments m p n 0) (inv.5 ok few) _ (inv.4 ok) e (omega arith) here);
       newest = tt;
       most = tt;
@@ -35,22 +35,22 @@ loop-place-preserved g c =
     let n = c.args.groups + 1 in
     let i = c.loop-place.place in
     let os = c.loop-place.places in
-    let o = c.in-ok-segment.segment in
+    let o = c.in_ok-segment.segment in
     let gs = map all_said (take i os) in
     let inv = c.loop-place.invariant in
     let at : c.from.result ≡ i = cc in
     let table : map all_said (take (i + 1) (set os c.from.result o)) ≡ _ =
     ap (λ k. map all_said (take (i + 1) (set os k o))) at ∙ table_more os i o (omega arith) in (
       length-set os c.from.result o ∙ inv.0,
-      c.newer-newest.ensures.most inv.1 c.in-ok-segment.ensures.most,
+      c.newer-newest.ensures.most inv.1 c.in_ok-segment.ensures.most,
       c.newer-newest.ensures.exact
           ∙ ap (λ x. later x (all_said o)) inv.2
           ∙ sym (newest_push gs (all_said o))
           ∙ sym (ap newest table),
-      λ ok. c.read-one.ensures.keeps (inv.3 ok),
-      λ ok. c.read-one.ensures.same (inv.3 ok) ∙ inv.4 ok,
+      λ ok. c.read_one.ensures.keeps (inv.3 ok),
+      λ ok. c.read_one.ensures.same (inv.3 ok) ∙ inv.4 ok,
       λ ok few.
-          let here = c.in-ok-segment.ensures.found (inv.3 ok) (ap groups (inv.4 ok) ∙ few) in
+          let here = c.in_ok-segment.ensures.found (inv.3 ok) (ap groups (inv.4 ok) ∙ few) in
           read_more m p n i gs (read_segments m p n 0) (inv.5 ok few) _ (inv.4 ok) (all_said o) (omega arith)
           here
           ∙ ap (λ hs. ahead hs (read_segments m p (n - (i + 1)) (i + 1))) (sym table),

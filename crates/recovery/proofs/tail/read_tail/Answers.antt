@@ -6,8 +6,8 @@ use Rattle.recovery.specs.Tails.{tail_left}
 use Rattle.recovery.proofs.TailFrames.{ahead, tail_with, tail_more, tail_fails, tail_ends, tail_all}
 use Rattle.recovery.proofs.tail.read_tail.Goals as goal
 
-pub returns-in-err-trailer : goal.returns-in-err-trailer
-returns-in-err-trailer g c =
+pub returns-in_err-trailer : goal.returns-in_err-trailer
+returns-in_err-trailer g c =
     let m = g.F.Medium.means c.args.flash.now in
     let x = g.F.Medium.means c.loop-i.flash in
     let p = c.args.pages in
@@ -15,17 +15,17 @@ returns-in-err-trailer g c =
     let i = c.loop-i.i in
     let inv = c.loop-i.invariant in
     let ts = take i c.loop-i.trailers in
-    let e = c.in-err-trailer.field-0.0 in
-    let was = err_from_is_err_and c.from-residual.result c.from-residual.ensures.1 in
+    let e = c.in_err-trailer.field-0.0 in
+    let was = err_from_is_err_and c.from_residual.result c.from_residual.ensures.1 in
     rw (was.1, was.2)
     (record {
-      keeps = λ ok. c.read-one.ensures.keeps (inv.1 ok);
-      same = λ ok. c.read-one.ensures.same (inv.1 ok) ∙ inv.2 ok;
+      keeps = λ ok. c.read_one.ensures.keeps (inv.1 ok);
+      same = λ ok. c.read_one.ensures.same (inv.1 ok) ∙ inv.2 ok;
       found =
           λ ok few.
-          sym (tail_fails m p q i ts (tail_left m p q 0) (inv.3 ok few) x c.from.result c.read-one.result
+          sym (tail_fails m p q i ts (tail_left m p q 0) (inv.3 ok few) x c.from.result c.read_one.result
           (inv.2 ok) c.from.ensures (omega arith)
-          (c.read-one.ensures.found (inv.1 ok) (ap frames (inv.2 ok) ∙ few)) e c.in-err-trailer.was);
+          (c.read_one.ensures.found (inv.1 ok) (ap frames (inv.2 ok) ∙ few)) e c.in_err-trailer.was);
       most = tt;
     })
 
@@ -40,15 +40,15 @@ returns-in-None g c =
     let ts = take i c.loop-i.trailers in
     let long : length ts ≡ i = simp length-take (omega arith) in
     record {
-      keeps = λ ok. c.read-one.ensures.keeps (inv.1 ok);
-      same = λ ok. c.read-one.ensures.same (inv.1 ok) ∙ inv.2 ok;
+      keeps = λ ok. c.read_one.ensures.keeps (inv.1 ok);
+      same = λ ok. c.read_one.ensures.same (inv.1 ok) ∙ inv.2 ok;
       found =
           λ ok few.
           ap Ok c.ended.ensures.said
-          ∙ sym (tail_ends m p q i ts (tail_left m p q 0) (inv.3 ok few) x c.from.result c.read-one.result
+          ∙ sym (tail_ends m p q i ts (tail_left m p q 0) (inv.3 ok few) x c.from.result c.read_one.result
           (inv.2 ok) c.from.ensures (omega arith)
-          (c.read-one.ensures.found (inv.1 ok) (ap frames (inv.2 ok) ∙ few))
-          (c.in-ok-trailer.was ∙ ap Ok c.in-None.is) long);
+          (c.read_one.ensures.found (inv.1 ok) (ap frames (inv.2 ok) ∙ few))
+          (c.in_ok-trailer.was ∙ ap Ok c.in-None.is) long);
       most = c.ended.ensures.most;
     }
 
@@ -66,13 +66,13 @@ loop-i-preserved g c =
     let one : take (i + 1) (set all k t) ≡ take i all ++ (t ∷ []) =
     ap (λ n. take (i + 1) (set all n t)) c.from-in-Some.ensures ∙ take_more_set all i t (omega arith) in (
       length-set all k t ∙ inv.0,
-      λ ok. c.read-one.ensures.keeps (inv.1 ok),
-      λ ok. c.read-one.ensures.same (inv.1 ok) ∙ inv.2 ok,
+      λ ok. c.read_one.ensures.keeps (inv.1 ok),
+      λ ok. c.read_one.ensures.same (inv.1 ok) ∙ inv.2 ok,
       λ ok few.
-          tail_more m p q i (take i all) (tail_left m p q 0) (inv.3 ok few) x c.from.result c.read-one.result
+          tail_more m p q i (take i all) (tail_left m p q 0) (inv.3 ok few) x c.from.result c.read_one.result
           (inv.2 ok) c.from.ensures (omega arith)
-          (c.read-one.ensures.found (inv.1 ok) (ap frames (inv.2 ok) ∙ few)) t
-          (c.in-ok-trailer.was ∙ ap Ok c.in-Some.is)
+          (c.read_one.ensures.found (inv.1 ok) (ap frames (inv.2 ok) ∙ few)) t
+          (c.in_ok-trailer.was ∙ ap Ok c.in-Some.is)
           ∙ ap (λ ts. ahead ts (tail_left m p q (i + 1))) (sym one),
     )
 

@@ -7,7 +7,7 @@ returns g c =
     let w = c.args.self.now in
     let m = g.M.Medium.means w.below in
     let e = reads_through w.first w.count c.args.page m (length c.args.into.now) in
-    let h = c.read-below.ensures in
+    let h = c.read_below.ensures in
     record {
       keeps = h.keeps;
       answer = λ ok. rw e at (h.answer ok);

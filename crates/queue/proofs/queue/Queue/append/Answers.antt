@@ -5,7 +5,7 @@ use Rattle.queue.proofs.queue.Queue.append.Goals as goal
 pub returns : goal.returns
 returns g c = λ o.
     let see = view g.F.Medium g.D.Medium in
-    let (still, put) = c.in-ok-put-frame.ensures o in
+    let (still, put) = c.in_ok-put_frame.ensures o in
     let (entered, is) = c.enter.ensures still in
     let (kept, due) = c.describe_due.ensures entered in (
       kept,

@@ -6,7 +6,7 @@ use Rattle.queue.proofs.queue.Queue.enqueue.Goals as goal
 pub returns : goal.returns
 returns g c = λ o.
     let see = view g.F.Medium g.D.Medium in
-    let made = c.in-ok-back.ensures in
+    let made = c.in_ok-back.ensures in
     let (still, room) = made.room o in
     let (kept, put) = c.append.ensures still in (
       kept,

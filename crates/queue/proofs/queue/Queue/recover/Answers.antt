@@ -8,29 +8,29 @@ use Rattle.queue.specs.View.{view}
 use Rattle.queue.proofs.Recovering.{not_read, recovered, not_described}
 use Rattle.queue.proofs.queue.Queue.recover.Goals as goal
 
-pub returns-in-err-back : goal.returns-in-err-back
-returns-in-err-back g c = λ o.
+pub returns-in_err-back : goal.returns-in_err-back
+returns-in_err-back g c = λ o.
     let x = view g.F.Medium g.D.Medium c.args.self.now in
-    let (kept, same, read) = c.in-err-back.ensures o in
-    let e = err_from_is_err_and c.from-residual.result c.from-residual.ensures.1 in
+    let (kept, same, read) = c.in_err-back.ensures o in
+    let e = err_from_is_err_and c.from_residual.result c.from_residual.ensures.1 in
     rw (e.1, e.2) (
       kept,
-      subst (λ (z : RulesQueue). Gives (recover x) (Err c.in-err-back.field-0.0) z) (sym same)
-          (not_read x c.in-err-back.field-0.0 read),
+      subst (λ (z : RulesQueue). Gives (recover x) (Err c.in_err-back.field-0.0) z) (sym same)
+          (not_read x c.in_err-back.field-0.0 read),
     )
 
-pub returns-in-err-describe-tail : goal.returns-in-err-describe-tail
-returns-in-err-describe-tail g c = λ o.
+pub returns-in_err-describe_tail : goal.returns-in_err-describe_tail
+returns-in_err-describe_tail g c = λ o.
     let see = view g.F.Medium g.D.Medium in
     let x = see c.args.self.now in
-    let b = c.in-ok-back.back in
-    let (still, same, read) = c.in-ok-back.ensures o in
-    let (kept, failed) = c.in-err-describe-tail.ensures still in
-    let f = c.in-err-describe-tail.field-0.0 in
-    let z = see c.describe-tail.new.self in
+    let b = c.in_ok-back.back in
+    let (still, same, read) = c.in_ok-back.ensures o in
+    let (kept, failed) = c.in_err-describe_tail.ensures still in
+    let f = c.in_err-describe_tail.field-0.0 in
+    let z = see c.describe_tail.new.self in
     let e =
-    err_from_is_err_and c.from-residual-in-err-describe-tail.result
-    c.from-residual-in-err-describe-tail.ensures.1 in
+    err_from_is_err_and c.from_residual-in_err-describe_tail.result
+    c.from_residual-in_err-describe_tail.ensures.1 in
     rw (e.1, e.2) (
       kept,
       not_described x b read f z
@@ -41,11 +41,11 @@ pub returns : goal.returns
 returns g c = λ o.
     let see = view g.F.Medium g.D.Medium in
     let x = see c.args.self.now in
-    let b = c.in-ok-back.back in
-    let (still, same, read) = c.in-ok-back.ensures o in
-    let (there, put) = c.in-ok-describe-tail.ensures still in
+    let b = c.in_ok-back.back in
+    let (still, same, read) = c.in_ok-back.ensures o in
+    let (there, put) = c.in_ok-describe_tail.ensures still in
     let (kept, is) = c.adopt.ensures there in
-    let z = see c.describe-tail.new.self in (
+    let z = see c.describe_tail.new.self in (
       kept,
       subst (λ (w : RulesQueue). Gives (recover x) (Ok b.found) w) (sym is)
           (recovered x b read z (subst (λ (y : RulesQueue). Gives (describes y b) (Ok tt) z) same put)),

@@ -11,11 +11,11 @@ returns g c = λ o.
     let many : c.frames_of.result ≡ frames (see c.args.self.now).flash =
     c.frames_of.ensures.exact ∙ ap (λ n. 15 * ((n - 1) / 16)) size_is in
     let some : 1 ≤ c.frames_of.result = omega (arith, many, o.sized.least) in
-    let (kept, put) = c.put-flash.ensures o in (
+    let (kept, put) = c.put_flash.ensures o in (
       kept,
-      segment_given (see c.args.self.now) (see c.put-flash.new.self) c.segment-bytes-bytes.result
-          c.frames_of.result c.segment_page.result c.put-flash.result many
-          (c.segment-bytes-bytes.ensures some)
+      segment_given (see c.args.self.now) (see c.put_flash.new.self) c.segment_bytes-bytes.result
+          c.frames_of.result c.segment_page.result c.put_flash.result many
+          (c.segment_bytes-bytes.ensures some)
           (c.segment_page.ensures
           ∙ ap (λ n. 15 * ((n - 1) / 16) + (c.args.self.now.last / 15 - 1) % ((n - 1) / 16 + 1)) size_is) put,
     )

@@ -3,7 +3,7 @@ use Rattle.rules.specs.Ram.{last_free}
 use Rattle.store.specs.View.{ram_of}
 use Rattle.store.proofs.Free.{or_none, free_later, free_before, free_all}
 use Rattle.store.proofs.frames.Frames.last_free_of.Goals as goal
-use Rattle.store.proofs.frames.Frames.last_free_of.Goals.{then-is-free, else-is-free}
+use Rattle.store.proofs.frames.Frames.last_free_of.Goals.{then-is_free, else-is_free}
 
 pub loop-frame-init : goal.loop-frame-init
 loop-frame-init c =
@@ -16,12 +16,12 @@ loop-frame-preserved c =
     let s = c.loop-frame in
     let i = s.frame-index in
     let lt : i < length c.args.order.now = omega arith in
-    elim c.if-is-free.branch [
-      | then-is-free w ↦
-          let e = free_later m c.args.order.now i s.free lt (sym c.is-free.ensures ∙ w.if-is-free.true) in
+    elim c.if-is_free.branch [
+      | then-is_free w ↦
+          let e = free_later m c.args.order.now i s.free lt (sym c.is_free.ensures ∙ w.if-is_free.true) in
           (cc, search rules)
-      | else-is-free w ↦
-          let e = free_before m c.args.order.now i s.free lt (sym c.is-free.ensures ∙ w.if-is-free.false) in
+      | else-is_free w ↦
+          let e = free_before m c.args.order.now i s.free lt (sym c.is_free.ensures ∙ w.if-is_free.false) in
           (cc, search rules)
     ]
 

@@ -5,17 +5,17 @@ use Rattle.store.specs.View.{view, granted}
 use Rattle.store.proofs.Taking.{next_hold, brought, not_brought}
 use Rattle.store.proofs.store.Store.bring.Goals as goal
 
-pub returns-in-err-fetch : goal.returns-in-err-fetch
-returns-in-err-fetch g c = λ o.
+pub returns-in_err-fetch : goal.returns-in_err-fetch
+returns-in_err-fetch g c = λ o.
     let see = view g.F.Medium g.D.Medium in
-    let (still, out) = c.in-ok-empty-frame.ensures o in
-    let (kept, failed) = c.in-err-fetch.ensures still in
-    let e = err_from_is_err_and c.from-residual-in-err-fetch.result c.from-residual-in-err-fetch.ensures.1 in
+    let (still, out) = c.in_ok-empty_frame.ensures o in
+    let (kept, failed) = c.in_err-fetch.ensures still in
+    let e = err_from_is_err_and c.from_residual-in_err-fetch.result c.from_residual-in_err-fetch.ensures.1 in
     rw (e.1, e.2) (
       kept,
       not_brought (see c.args.self.now) c.args.page c.in-Some.frame c.card-evicted.result.page
           c.in-Some.ensures.value (omega arith) (ap (λ (k : Card). k.page) c.card-evicted.ensures)
-          (see c.empty_frame.new.self) out (see c.fetch.new.self) c.in-err-fetch.field-0.0 failed,
+          (see c.empty_frame.new.self) out (see c.fetch.new.self) c.in_err-fetch.field-0.0 failed,
     )
 
 pub returns : goal.returns
@@ -24,8 +24,8 @@ returns g c = λ o.
     let x = see c.args.self.now in
     let y = see c.empty_frame.new.self in
     let z = see c.fetch.new.self in
-    let (still, out) = c.in-ok-empty-frame.ensures o in
-    let (there, came) = c.in-ok-fetch.ensures still in
+    let (still, out) = c.in_ok-empty_frame.ensures o in
+    let (there, came) = c.in_ok-fetch.ensures still in
     let (kept, held) = c.hold_frame.ensures (next_hold x y z c.in-Some.frame c.args.page out came) there in (
       kept,
       brought x c.args.page c.in-Some.frame c.card-evicted.result.page c.in-Some.ensures.value

@@ -2,4 +2,4 @@ use Rattle.rules.proofs.Promised.{each_call}
 use Rattle.store.proofs.store.Store.checkpoint.Goals as goal
 
 pub returns : goal.returns
-returns g c = record { does = c.serve-checkpoint.ensures; stands = λ o. each_call _ _ _ _ (c.serve-checkpoint.ensures o).1 }
+returns g c = record { does = c.serve_checkpoint.ensures; stands = λ o. each_call _ _ _ _ (c.serve_checkpoint.ensures o).1 }

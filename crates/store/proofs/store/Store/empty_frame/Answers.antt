@@ -9,7 +9,7 @@ use Rattle.store.specs.declared.frames.Frames.{Frames}
 use Rattle.store.specs.declared.store.Store.{Store}
 use Rattle.store.proofs.Leaving.{was_empty, was_dropped, was_queued}
 use Rattle.store.proofs.store.Store.empty_frame.Goals as goal
-use Rattle.store.proofs.store.Store.empty_frame.Goals.{in-Some+then-must-go+in-ok-enqueue-frame}
+use Rattle.store.proofs.store.Store.empty_frame.Goals.{in-Some+then-must-go+in_ok-enqueue-frame}
 use Rattle.store.proofs.store.Store.empty_frame.Goals.{in-Some+else-must-go, in-default}
 
 -- Where the ways meet in the store m, the frame is emptied.
@@ -34,13 +34,13 @@ returns g c = λ o.
     let k = c.card-card.result in
     let own = c.card-card.ensures in
     elim c.match-card.branch [
-      | in-Some+then-must-go+in-ok-enqueue-frame w ↦
-          let (kept, put) = w.in-ok-enqueue-frame.ensures o in
+      | in-Some+then-must-go+in_ok-enqueue-frame w ↦
+          let (kept, put) = w.in_ok-enqueue_frame.ensures o in
           met g.F.Medium g.D.Medium x f _ _ c.empty.new.self w.self-is c.empty.ensures kept
-          (was_queued x f k own w.in-Some.page w.in-Some.is w.if-must-go.ensures _ put)
+          (was_queued x f k own w.in-Some.page w.in-Some.is w.if-must_go.ensures _ put)
       | in-Some+else-must-go w ↦
           met g.F.Medium g.D.Medium x f _ _ c.empty.new.self w.self-is c.empty.ensures o
-          (was_dropped x f k own w.in-Some.page w.in-Some.is w.if-must-go.ensures)
+          (was_dropped x f k own w.in-Some.page w.in-Some.is w.if-must_go.ensures)
       | in-default w ↦
           met g.F.Medium g.D.Medium x f _ _ c.empty.new.self w.self-is c.empty.ensures o (was_empty x f k own w.in-default.is)
     ]

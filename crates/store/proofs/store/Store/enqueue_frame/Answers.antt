@@ -14,7 +14,7 @@ returns-in-Err g c = λ o.
     let f = c.args.frame in
     let p = c.args.page in
     let on = c.heard.new.on in
-    let y = (see c.hand-over.new.self).queue in
+    let y = (see c.hand_over.new.self).queue in
     let rest = c.in-Err.ensures.rest in
     let (kept, put) = c.in-Err.ensures.queued o in (
       kept,

@@ -6,10 +6,10 @@ use Rattle.store.proofs.store.Store.load_from_disk.Goals as goal
 pub returns : goal.returns
 returns g c = λ o.
     let x = view g.F.Medium g.D.Medium c.args.self.now in
-    let (kept, same, found) = c.in-ok-bytes.ensures o in (
+    let (kept, same, found) = c.in_ok-bytes.ensures o in (
       kept,
-      from_disk_given x c.args.frame c.args.page c.in-Some.bytes c.in-Some-read-trailer.trailer _
+      from_disk_given x c.args.frame c.args.page c.in-Some.bytes c.in-Some-read_trailer.trailer _
           (λ i. record { state = x.state; ram = c.fill.ensures i; queue = same i; holds = x.holds })
-          c.disk-pages-pages.result (ap Ok (sym c.in-Some.is) ∙ found) (c.disk-pages-pages.ensures o.media)
-          (omega arith) c.in-Some-read-trailer.ensures c.if-trailer-page.false,
+          c.disk_pages-pages.result (ap Ok (sym c.in-Some.is) ∙ found) (c.disk_pages-pages.ensures o.media)
+          (omega arith) c.in-Some-read_trailer.ensures c.if-trailer-page.false,
     )

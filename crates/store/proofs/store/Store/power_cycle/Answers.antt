@@ -11,9 +11,9 @@ returns g c =
     let see = view g.F.Medium g.D.Medium in
     let x = see c.args.self.now in
     let z = see c.cycle.new.self in
-    let call = power_cycle c.args.flash-charge c.args.disk-charge in
+    let call = power_cycle c.args.flash_charge c.args.disk_charge in
     let gives : InOrder g.F.Medium g.D.Medium c.args.self.now → Gives (step x call) (Ok cycled) z =
-    λ o. cycled_so x c.args.flash-charge c.args.disk-charge (Ok cycled) z (c.cycle.ensures o.media).2 in
+    λ o. cycled_so x c.args.flash_charge c.args.disk_charge (Ok cycled) z (c.cycle.ensures o.media).2 in
     record {
       does = λ o.
           let (kept, shut, did) = c.cycle.ensures o.media in

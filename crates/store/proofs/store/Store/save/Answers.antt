@@ -3,13 +3,13 @@ use Rattle.store.specs.View.{view}
 use Rattle.store.proofs.Saving.{save_failed}
 use Rattle.store.proofs.store.Store.save.Goals as goal
 
-pub returns-in-err-enqueue-frame : goal.returns-in-err-enqueue-frame
-returns-in-err-enqueue-frame g c = λ o.
+pub returns-in_err-enqueue_frame : goal.returns-in_err-enqueue_frame
+returns-in_err-enqueue_frame g c = λ o.
     let see = view g.F.Medium g.D.Medium in
-    let (kept, failed) = c.in-err-enqueue-frame.ensures o in
-    let e = err_from_is_err_and c.from-residual.result c.from-residual.ensures.1 in
+    let (kept, failed) = c.in_err-enqueue_frame.ensures o in
+    let e = err_from_is_err_and c.from_residual.result c.from_residual.ensures.1 in
     rw (e.1, e.2) (
       kept,
       save_failed (see c.args.self.now) (see c.enqueue_frame.new.self) c.args.frame c.in-Some.page
-          c.card.result c.in-err-enqueue-frame.field-0.0 c.card.ensures c.in-Some.is failed,
+          c.card.result c.in_err-enqueue_frame.field-0.0 c.card.ensures c.in-Some.is failed,
     )
