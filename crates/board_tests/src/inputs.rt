@@ -17,14 +17,14 @@ fn has_lines(rt: &impl Abort, input: &[u8], lines: &[&str]) -> Result<(), Fail> 
 
 #[test]
 fn lines(rt: HostRuntime) -> Result<(), Fail> {
-    has_lines(&rt, b"", &[]).note("empty")?;
-    has_lines(&rt, b"k", &["k"]).note("one, with no line feed")?;
-    has_lines(&rt, b"k\n", &["k"]).note("one")?;
-    has_lines(&rt, b"\n", &[""]).note("one empty line")?;
-    has_lines(&rt, b"\n\n", &["", ""]).note("two empty lines")?;
-    has_lines(&rt, b"m 1\nk", &["m 1", "k"]).note("the last with no line feed")?;
-    has_lines(&rt, b"m 1\n\nk\n", &["m 1", "", "k"]).note("an empty one between")?;
-    has_lines(&rt, b"k\r\nk\r", &["k\r", "k\r"]).note("carriage returns")
+    has_lines(&rt, b"", &[])?;
+    has_lines(&rt, b"k", &["k"])?;
+    has_lines(&rt, b"k\n", &["k"])?;
+    has_lines(&rt, b"\n", &[""])?;
+    has_lines(&rt, b"\n\n", &["", ""])?;
+    has_lines(&rt, b"m 1\nk", &["m 1", "k"])?;
+    has_lines(&rt, b"m 1\n\nk\n", &["m 1", "", "k"])?;
+    has_lines(&rt, b"k\r\nk\r", &["k\r", "k\r"])
 }
 
 // Past the input no line begins.

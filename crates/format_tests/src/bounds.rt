@@ -157,9 +157,9 @@ fn reads(rt: &impl Abort, rows: &[Row]) -> Result<(), Fail> {
 
 #[test]
 fn bounds(rt: HostRuntime) -> Result<(), Fail> {
-    reads(&rt, &NUMBERS).note("numbers")?;
-    reads(&rt, &VERSIONS).note("versions")?;
-    reads(&rt, &BACKS).note("back pointers")?;
-    reads(&rt, &PAGES).note("pages")?;
-    reads(&rt, &ENDS).note("the last two bytes")
+    reads(&rt, &NUMBERS)?;
+    reads(&rt, &VERSIONS)?;
+    reads(&rt, &BACKS)?;
+    reads(&rt, &PAGES)?;
+    reads(&rt, &ENDS)
 }

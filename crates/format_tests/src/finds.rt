@@ -153,16 +153,16 @@ fn finds(rt: &impl Abort, row: &Row) -> Result<(), Fail> {
     let (first, second, third, count, page, found) = *row;
     let records = [first, second, third];
     let entries = directory(records);
-    is_highest(rt, &entries, count, page, found).note("entry")?;
-    is_valid(rt, &entries, count, page, found).note("valid entry")?;
+    is_highest(rt, &entries, count, page, found)?;
+    is_valid(rt, &entries, count, page, found)?;
     let cards = table(records);
-    is_highest(rt, &cards, count, page, found).note("card")?;
-    is_frame(rt, &cards, count, page, found).note("frame")
+    is_highest(rt, &cards, count, page, found)?;
+    is_frame(rt, &cards, count, page, found)
 }
 
 fn all_found(rt: &impl Abort, rows: &[Row]) -> Result<(), Fail> {
     for (i, row) in rows.iter().enumerate() {
-        finds(rt, row).note(format_args!("row {i}"))?;
+        finds(rt, row)?;
     }
     Ok(())
 }

@@ -45,7 +45,7 @@ fn writes_page(rt: &impl Abort, length: usize, body_length: usize) -> Result<(),
 fn pages_written(rt: HostRuntime) -> Result<(), Fail> {
     for length in &LENGTHS {
         for body_length in &BODIES {
-            writes_page(&rt, *length, *body_length).note(format_args!("{length}, {body_length}"))?;
+            writes_page(&rt, *length, *body_length)?;
         }
     }
     Ok(())
@@ -80,8 +80,8 @@ fn reads(rt: &impl Abort, length: usize) -> Result<(), Fail> {
 #[test]
 fn other_lengths(rt: HostRuntime) -> Result<(), Fail> {
     for length in &LENGTHS {
-        writes_segment(&rt, *length).note(format_args!("{length} written"))?;
-        reads(&rt, *length).note(format_args!("{length} read"))?;
+        writes_segment(&rt, *length)?;
+        reads(&rt, *length)?;
     }
     Ok(())
 }

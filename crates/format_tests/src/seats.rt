@@ -65,16 +65,16 @@ static SEATS: [(u32, u16, u16); 12] = [
 
 fn seated(rt: &impl Abort, last: u32, groups: u16, own: u16) -> Result<(), Fail> {
     for place in 0..=16u16 {
-        reads(rt, last, last, groups, place, 240, place == own).note(format_args!("in {place}"))?;
+        reads(rt, last, last, groups, place, 240, place == own)?;
     }
-    reads(rt, last, last, groups, own, 239, false).note("on too small a disk")
+    reads(rt, last, last, groups, own, 239, false)
 }
 
 // It is read in no other place.
 #[test]
 fn places(rt: HostRuntime) -> Result<(), Fail> {
     for (last, groups, own) in &SEATS {
-        seated(&rt, *last, *groups, *own).note(format_args!("{last} of {groups} groups"))?;
+        seated(&rt, *last, *groups, *own)?;
     }
     Ok(())
 }
@@ -102,7 +102,7 @@ fn fronted(rt: &impl Abort, last: u32, groups: u16, place: u16, least: u32) -> R
         (last, true),
         (above, false),
     ] {
-        reads(rt, last, front, groups, place, 240, fits).note(format_args!("front {front}"))?;
+        reads(rt, last, front, groups, place, 240, fits)?;
     }
     Ok(())
 }
@@ -110,9 +110,7 @@ fn fronted(rt: &impl Abort, last: u32, groups: u16, place: u16, least: u32) -> R
 #[test]
 fn fronts(rt: HostRuntime) -> Result<(), Fail> {
     for (last, groups, place, least) in &FRONTS {
-        fronted(&rt, *last, *groups, *place, *least).note(format_args!(
-            "{last} of {groups} groups"
-        ))?;
+        fronted(&rt, *last, *groups, *place, *least)?;
     }
     Ok(())
 }
@@ -135,7 +133,7 @@ static NEVER: [(u32, u16); 10] = [
 fn no_segments(rt: HostRuntime) -> Result<(), Fail> {
     for (last, groups) in &NEVER {
         for place in 0..=16u16 {
-            reads(&rt, *last, *last, *groups, place, 240, false).note(*last)?;
+            reads(&rt, *last, *last, *groups, place, 240, false)?;
         }
     }
     Ok(())

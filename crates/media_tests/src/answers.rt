@@ -117,14 +117,14 @@ fn on_all(
 
 #[test]
 fn no_page(rt: HostRuntime) -> Result<(), Fail> {
-    on_all(&rt, 0, 0, 1, &NO_PAGE).note("no bytes")?;
-    on_all(&rt, 256, 271, 0, &NO_PAGE).note("one byte short")
+    on_all(&rt, 0, 0, 1, &NO_PAGE)?;
+    on_all(&rt, 256, 271, 0, &NO_PAGE)
 }
 
 #[test]
 fn one_page(rt: HostRuntime) -> Result<(), Fail> {
-    on_all(&rt, 257, 272, 1, &ONE_PAGE).note("no spare bytes")?;
-    on_all(&rt, 513, 543, 1, &ONE_PAGE).note("one byte short of two pages")
+    on_all(&rt, 257, 272, 1, &ONE_PAGE)?;
+    on_all(&rt, 513, 543, 1, &ONE_PAGE)
 }
 
 #[test]

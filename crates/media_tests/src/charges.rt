@@ -71,7 +71,7 @@ fn on_both(rt: &impl Abort, charge: u32, script: &[Step]) -> Result<(), Fail> {
 fn charges(rt: HostRuntime) -> Result<(), Fail> {
     for made in CHARGES {
         for relit in CHARGES {
-            on_both(&rt, made.charge, &writes(made, relit)).note(relit.charge)?;
+            on_both(&rt, made.charge, &writes(made, relit))?;
         }
     }
     Ok(())

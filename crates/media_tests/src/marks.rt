@@ -42,7 +42,7 @@ fn every_mark(rt: HostRuntime) -> Result<(), Fail> {
     marked(&rt, 0, [TORN; 2])?;
     marked(&rt, 1, [Ok(30), Ok(70)])?;
     for mark in 2..=255u8 {
-        marked(&rt, mark, [TORN; 2]).note(mark)?;
+        marked(&rt, mark, [TORN; 2])?;
     }
     Ok(())
 }
@@ -52,7 +52,7 @@ fn every_mark(rt: HostRuntime) -> Result<(), Fail> {
 fn every_tick(rt: HostRuntime) -> Result<(), Fail> {
     ticked(&rt, [0; 16], [TORN; 2])?;
     for tick in 1..=255u8 {
-        ticked(&rt, [tick; 16], [Ok(30), Ok(70)]).note(tick)?;
+        ticked(&rt, [tick; 16], [Ok(30), Ok(70)])?;
     }
     Ok(())
 }
@@ -67,7 +67,7 @@ fn every_odd_sector(rt: HostRuntime) -> Result<(), Fail> {
         for sector in 0..16usize {
             let mut ticks = [tick; 16];
             ticks[sector] = other;
-            ticked(&rt, ticks, [TORN; 2]).note(sector)?;
+            ticked(&rt, ticks, [TORN; 2])?;
         }
     }
     Ok(())

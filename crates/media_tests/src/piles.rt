@@ -84,8 +84,7 @@ fn piles_over_trays(rt: HostRuntime) -> Result<(), Fail> {
             2,
             Under::Pile,
             &two_cuts(row.zero, row.one),
-        )
-        .note(row.strike)?;
+        )?;
         let mut left = [0u8; 1542];
         lay(&mut left, 514, &tray_page(91, 1));
         lay(&mut left, 771, &tray_page(row.first, row.mark));
@@ -107,8 +106,7 @@ fn piles_over_cards(rt: HostRuntime) -> Result<(), Fail> {
             2,
             Under::Pile,
             &two_cuts(row.zero, row.one),
-        )
-        .note(row.stop)?;
+        )?;
         let mut left = [0u8; 1632];
         lay(&mut left, 544, &card_page(91, [row.tick; 16]));
         lay(&mut left, 816, &card_torn(old, new, row.sectors));

@@ -95,7 +95,7 @@ fn follow<M: Medium>(rt: &impl Abort, medium: &mut M, step: Step) -> Result<(), 
 
 pub fn play<M: Medium>(rt: &impl Abort, medium: &mut M, script: &[Step]) -> Result<(), Fail> {
     for (i, step) in script.iter().enumerate() {
-        follow(rt, medium, *step).note(format_args!("step {i}"))?;
+        follow(rt, medium, *step)?;
     }
     Ok(())
 }

@@ -70,8 +70,8 @@ fn of_a_card(rt: &impl Abort, heap: Global, row: &Row) -> Result<(), Fail> {
 #[test]
 fn sizes(rt: HostRuntime) -> Result<(), Fail> {
     for row in &SIZES {
-        of_a_tray(&rt, rt.alloc(), row).note(row.pages)?;
-        of_a_card(&rt, rt.alloc(), row).note(row.pages)?;
+        of_a_tray(&rt, rt.alloc(), row)?;
+        of_a_card(&rt, rt.alloc(), row)?;
     }
     Ok(())
 }

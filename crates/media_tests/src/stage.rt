@@ -21,7 +21,7 @@ pub enum Under {
 }
 
 fn buffered<M: Medium + Drop>(rt: &impl Abort, below: M, script: &[Step]) -> Result<(), Fail> {
-    play(rt, &mut ReadBuffer::new(below), script).note("under a read buffer")
+    play(rt, &mut ReadBuffer::new(below), script)
 }
 
 fn windowed<M: Medium + Drop>(
@@ -31,12 +31,12 @@ fn windowed<M: Medium + Drop>(
     count: u16,
     script: &[Step],
 ) -> Result<(), Fail> {
-    play(rt, &mut Window::new(first, count, below), script).note("under a window")
+    play(rt, &mut Window::new(first, count, below), script)
 }
 
 fn piled<M: Medium + Drop>(rt: &impl Abort, below: M, script: &[Step]) -> Result<(), Fail> {
     let buffer = ReadBuffer::new(Window::new(1, 9, below));
-    play(rt, &mut Window::new(1, 3, buffer), script).note("under a pile")
+    play(rt, &mut Window::new(1, 3, buffer), script)
 }
 
 fn stage<M: Medium + Drop>(
@@ -65,7 +65,7 @@ pub fn on_tray(
     under: Under,
     script: &[Step],
 ) -> Result<(), Fail> {
-    stage(rt, Tray::new(bytes, strike, charge), under, script).note("tray")
+    stage(rt, Tray::new(bytes, strike, charge), under, script)
 }
 
 pub fn on_card(
@@ -76,5 +76,5 @@ pub fn on_card(
     under: Under,
     script: &[Step],
 ) -> Result<(), Fail> {
-    stage(rt, Card::new(bytes, stop, charge), under, script).note("card")
+    stage(rt, Card::new(bytes, stop, charge), under, script)
 }

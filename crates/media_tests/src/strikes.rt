@@ -192,8 +192,7 @@ fn tray_strikes(rt: HostRuntime) -> Result<(), Fail> {
             0,
             Under::Nothing,
             &struck(70, row.shown),
-        )
-        .note(row.strike)?;
+        )?;
         let left = laid(257, &tray_page(row.first, row.mark));
         assert!(rt; bytes == left, "{}", row.strike);
     }
@@ -213,8 +212,7 @@ fn card_stops(rt: HostRuntime) -> Result<(), Fail> {
             0,
             Under::Nothing,
             &struck(70, row.shown),
-        )
-        .note(row.stop)?;
+        )?;
         let left = laid(272, &card_torn(old, new, row.sectors));
         assert!(rt; bytes == left, "{}", row.stop);
     }
@@ -240,8 +238,7 @@ fn lives(rt: &impl Abort, bytes: &mut [u8]) -> Result<(), Fail> {
             0,
             Under::Nothing,
             &struck(life.first, life.shown),
-        )
-        .note(life.first)?;
+        )?;
     }
     Ok(())
 }

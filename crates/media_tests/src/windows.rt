@@ -189,7 +189,7 @@ fn windows(rt: HostRuntime) -> Result<(), Fail> {
     for row in &WINDOWS {
         let under = Under::Window(row.first, row.count);
         let mut bytes = four_pages([10, 20, 30, 40]);
-        on_tray(&rt, &mut bytes, 2, 2, under, &in_the_light(row)).note(row.first)?;
+        on_tray(&rt, &mut bytes, 2, 2, under, &in_the_light(row))?;
         assert!(rt; bytes == four_pages(row.after), "{}", row.first);
     }
     Ok(())
@@ -200,7 +200,7 @@ fn dark_windows(rt: HostRuntime) -> Result<(), Fail> {
     for row in &WINDOWS {
         let under = Under::DarkWindow(row.first, row.count);
         let mut bytes = four_pages([10, 20, 30, 40]);
-        on_tray(&rt, &mut bytes, 0, 0, under, &in_the_dark(row)).note(row.first)?;
+        on_tray(&rt, &mut bytes, 0, 0, under, &in_the_dark(row))?;
         assert!(rt; bytes == four_pages([10, 20, 30, 40]), "{}", row.first);
     }
     Ok(())

@@ -143,7 +143,7 @@ fn no_cut(rt: HostRuntime) -> Result<(), Fail> {
 fn at_every_flash_write(rt: HostRuntime) -> Result<(), Fail> {
     for strike in STRIKES {
         for write in 0..101u8 {
-            on_all(&rt, &flash_cut(write, strike)).note(write)?;
+            on_all(&rt, &flash_cut(write, strike))?;
         }
     }
     Ok(())
@@ -153,7 +153,7 @@ fn at_every_flash_write(rt: HostRuntime) -> Result<(), Fail> {
 fn at_every_disk_write(rt: HostRuntime) -> Result<(), Fail> {
     for strike in STRIKES {
         for write in 0..5u8 {
-            on_all(&rt, &disk_cut(write, SAVES[usize::from(write)], strike)).note(write)?;
+            on_all(&rt, &disk_cut(write, SAVES[usize::from(write)], strike))?;
         }
     }
     Ok(())

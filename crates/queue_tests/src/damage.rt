@@ -188,7 +188,7 @@ fn damaged(rt: &impl Abort, steps: u8, row: Row) -> Result<(), Fail> {
 #[test]
 fn after_20(rt: HostRuntime) -> Result<(), Fail> {
     for (i, row) in AFTER_20.iter().enumerate() {
-        damaged(&rt, 20, *row).note(i)?;
+        damaged(&rt, 20, *row)?;
     }
     Ok(())
 }
@@ -196,7 +196,7 @@ fn after_20(rt: HostRuntime) -> Result<(), Fail> {
 #[test]
 fn after_50(rt: HostRuntime) -> Result<(), Fail> {
     for (i, row) in AFTER_50.iter().enumerate() {
-        damaged(&rt, 50, *row).note(i)?;
+        damaged(&rt, 50, *row)?;
     }
     Ok(())
 }

@@ -108,7 +108,7 @@ pub(crate) fn holds_all<F: Medium, D: Medium>(
     steps: u8,
 ) -> Result<(), Fail> {
     for page in 0..PAGES {
-        holds(rt, queue, page, newest(steps, page)).note(page)?;
+        holds(rt, queue, page, newest(steps, page))?;
     }
     Ok(())
 }

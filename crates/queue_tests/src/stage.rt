@@ -30,7 +30,6 @@ fn on_tray_and_card(rt: &impl Abort, cut: &Cut) -> Result<(), Fail> {
         Card::new(&mut disk, cut.strike.on_card(), cut.disk),
         cut,
     )
-    .note("tray and card")
 }
 
 fn on_card_and_tray(rt: &impl Abort, cut: &Cut) -> Result<(), Fail> {
@@ -42,7 +41,6 @@ fn on_card_and_tray(rt: &impl Abort, cut: &Cut) -> Result<(), Fail> {
         Tray::new(&mut disk, cut.strike.on_tray(), cut.disk),
         cut,
     )
-    .note("card and tray")
 }
 
 // A window over a read buffer over a tray that has a page more before it and one after it.
@@ -57,7 +55,6 @@ fn on_piles(rt: &impl Abort, cut: &Cut) -> Result<(), Fail> {
         Window::new(1, 8, ReadBuffer::new(under)),
         cut,
     )
-    .note("piles")
 }
 
 pub(crate) fn on_all(rt: &impl Abort, cut: &Cut) -> Result<(), Fail> {

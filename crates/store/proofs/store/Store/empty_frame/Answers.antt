@@ -10,7 +10,7 @@ use Rattle.store.specs.declared.store.Store.{Store}
 use Rattle.store.proofs.Leaving.{was_empty, was_dropped, was_queued}
 use Rattle.store.proofs.store.Store.empty_frame.Goals as goal
 use Rattle.store.proofs.store.Store.empty_frame.Goals.{in-Some+then-must-go+in_ok-enqueue-frame}
-use Rattle.store.proofs.store.Store.empty_frame.Goals.{in-Some+else-must-go, in-default}
+use Rattle.store.proofs.store.Store.empty_frame.Goals.{in-Some+else-must-go, in_default}
 
 -- Where the ways meet in the store m, the frame is emptied.
 met : {F D : Type 0} (a : Ghosts F) (b : Ghosts D) (x : RulesStore) (f : ℕ) (m n : Store F D) (fr : Frames) → m ≡ n
@@ -41,6 +41,6 @@ returns g c = λ o.
       | in-Some+else-must-go w ↦
           met g.F.Medium g.D.Medium x f _ _ c.empty.new.self w.self-is c.empty.ensures o
           (was_dropped x f k own w.in-Some.page w.in-Some.is w.if-must_go.ensures)
-      | in-default w ↦
-          met g.F.Medium g.D.Medium x f _ _ c.empty.new.self w.self-is c.empty.ensures o (was_empty x f k own w.in-default.is)
+      | in_default w ↦
+          met g.F.Medium g.D.Medium x f _ _ c.empty.new.self w.self-is c.empty.ensures o (was_empty x f k own w.in_default.is)
     ]
