@@ -1,5 +1,5 @@
 -- What rules that were put together give, by what their parts give.
-use Rattle.std.proofs.Common.{◌≡◌, ℕ, List, Ok, Err, Result, sym, subst, arith}
+use Rattle.std.proofs.Common.{◌≡◌, ℕ, List, Ok, Err, Result, subst, arith}
 use Rattle.medium.specs.Meaning.{Bytes, Page}
 use Rattle.medium.specs.Outcome.{Wrote, Outcome, done, refused, struck, Gives}
 use Rattle.rules.specs.Steps.{after, framed, then_do}

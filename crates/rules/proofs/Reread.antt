@@ -6,8 +6,6 @@ use Rattle.std.proofs.lemmas.Bool.{cases_eq, cases_lt, and_from, eq-eqb, ne_eqb,
 use Rattle.std.proofs.lemmas.List.{get_or-set_same, get_or-set_other, length-set, get_or-replicate, get_or_past, length-replicate}
 use Rattle.medium.specs.Meaning.{Bytes, Meaning, page}
 use Rattle.rules.specs.declared.fault.Fault.{Fault}
-use Rattle.rules.specs.declared.fault.Refusal.TheVariants as refusal
-use Rattle.rules.specs.declared.fault.Side.TheVariants as side
 use Rattle.rules.specs.declared.trailer.Trailer.{Trailer}
 use Rattle.rules.specs.Steps.{same}
 use Rattle.rules.specs.Format.{Segment, fields, proper}

@@ -17,7 +17,6 @@ use Rattle.rules.specs.Store.{Call, mount, take_page, read, write, give_back, ch
 use Rattle.rules.specs.Store.{Answer, gave}
 use Rattle.rules.specs.Store.{Store, Out, refuse, by_state, step}
 use Rattle.rules.specs.Book.{Book, Copy, fed, opened}
-use Rattle.rules.specs.Book as book
 use Rattle.rules.specs.Promise.{Blank, Fresh, Run, begun, next, Stands, Found, Reads, Now, accepted_read}
 use Rattle.rules.specs.Promise.{EveryRun}
 use Rattle.rules.proofs.Invariant.{History, hist, trailer, bytes, In, Latest, Never, first, Written}

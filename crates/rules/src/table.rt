@@ -20,19 +20,6 @@ pub struct Hold {
     pub evicted: Option<u16>,
 }
 
-impl Drop for Hold {
-    fn drop(self)
-        requires { ⊥ }
-    {
-        let Hold {
-            frame: _,
-            number: _,
-            version: _,
-            evicted: _,
-        } = self;
-    }
-}
-
 // What a take grants: the frame, the hold's number, the version then, and the page that had to leave, if any.
 #[derive(Clone, Copy, PartialEq, Eq, Debug)]
 pub struct Grant {

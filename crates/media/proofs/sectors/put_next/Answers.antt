@@ -1,5 +1,5 @@
 use Rattle.std.proofs.Common.{◌≡◌, ◌+◌, ◌-◌, ◌*◌, ◌∙◌, add-one, arith}
-use Rattle.media.specs.Card.{put_at, put_sectors}
+use Rattle.media.specs.Card.{put_sectors}
 use Rattle.media.proofs.sectors.put_next.Goals as goal
 
 pub returns : goal.returns
