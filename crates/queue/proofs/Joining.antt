@@ -1,6 +1,6 @@
 -- What enqueue gives, by what its parts give.
 use Rattle.std.proofs.Common.{◌≡◌, ℕ, ◌+◌, ◌-◌, ◌/◌, ◌<◌, Bool, cond, [], ◌++◌, Ok, Result, sym, ap, ◌∙◌, subst, arith}
-use Rattle.std.proofs.lemmas.Bool.{lt-leb}
+use Rattle.std.proofs.lemmas.Bool.{ne_eqb}
 use Rattle.medium.specs.Meaning.{Bytes, page}
 use Rattle.medium.specs.Outcome.{Gives, refused}
 use Rattle.rules.specs.declared.fault.Fault.{Fault}
@@ -40,7 +40,7 @@ enqueue_given x y z t body r low is back room g =
     subst
     (λ (b : Bool).
     Gives (cond b (refused (plain refusal.Spent) x []) (then_do (make_room x) (λ a w. append w (k t w) body))) r z)
-    (sym (lt-leb most x.last low))
+    (sym (ne_eqb x.last most (λ e. absurd (omega (arith, e, low)))))
     (then_gives (λ a w. append w (k t w) body) (make_room x) tt y room r z
     (subst (λ (u : Trailer). Gives (append y u body) r z) own g))
 

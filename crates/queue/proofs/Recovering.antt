@@ -1,14 +1,14 @@
 -- What recovery gives, by what its parts give.
-use Rattle.std.proofs.Common.{◌≡◌, ℕ, ◌-◌, ◌/◌, Bool, true, false, cond, eqb, [], Ok, Err, Result, sym, refl, ap, ◌∙◌, subst, arith}
+use Rattle.std.proofs.Common.{◌≡◌, ℕ, ◌-◌, ◌/◌, Bool, true, false, cond, eqb, [], Ok, Err, Result, sym, refl, ap, subst, arith}
 use Rattle.medium.specs.declared.Cause.{Cause}
-use Rattle.medium.specs.Meaning.{Bytes, Meaning, size}
+use Rattle.medium.specs.Meaning.{Meaning, size}
 use Rattle.medium.specs.Outcome.{Outcome, done, refused, struck, Gives}
 use Rattle.medium.specs.Rules.{write}
 use Rattle.rules.specs.declared.fault.Fault.{Fault}
 use Rattle.rules.specs.declared.fault.Side.TheVariants as side
 use Rattle.rules.specs.declared.state.Mounted.{Mounted}
 use Rattle.rules.specs.Format.{Segment, encode_segment}
-use Rattle.rules.specs.Queue.{Queue, frames, segment_of, segment_page, with_flash, write_flash, write_segment}
+use Rattle.rules.specs.Queue.{Queue, frames, segment_page, with_flash, write_flash}
 use Rattle.rules.specs.Recovery.{recover, settle}
 use Rattle.rules.specs.Refusals.{of_cause}
 use Rattle.rules.specs.Steps.{within}

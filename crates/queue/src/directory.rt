@@ -1,4 +1,4 @@
-ghost use Rattle.std.specs.Prelude.{◌≡◌, None, slice_index_or, slice_set};
+ghost use Rattle.std.specs.Prelude.{◌≡◌, ◌≤◌, None, slice_index_or, slice_set};
 ghost use Rattle.rules.specs.Queue.{slot as slot_of, entry as entry_of, valid, number, entered};
 ghost use Rattle.queue.specs.View.{InOrder, view, Changes, cleared};
 
@@ -68,6 +68,7 @@ impl<F: Medium, D: Medium> Queue<F, D> {
 
     // The number of a trailer stands in its frame now.
     pub(crate) fn enter(&mut self, trailer: &Trailer)
+        requires { trailer.now.q ≤ 4000000000 }
         ensures { Changes F.Medium D.Medium self.old self.new
             (λ x. entered x trailer.now) }
     {

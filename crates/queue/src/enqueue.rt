@@ -1,4 +1,4 @@
-ghost use Rattle.std.specs.Prelude.{◌≡◌, ◌<◌, false, IfOk, nat_le};
+ghost use Rattle.std.specs.Prelude.{◌≡◌, ◌<◌, ◌≤◌, false, IfOk, ◌==◌};
 ghost use Rattle.medium.specs.Rules.{plainly};
 ghost use Rattle.rules.specs.Format.{most};
 ghost use Rattle.rules.specs.Queue.{append, describe_due, enqueue, make_room, number, valid, write_segment};
@@ -19,10 +19,11 @@ pub(crate) const MOST: u32 = 4_000_000_000;
 
 // Whether no number is left after this one.
 fn is_spent(last: u32) -> bool
-    ensures exact { result ≡ nat_le most last }
+    requires { last ≤ 4000000000 }
+    ensures exact { result ≡ (last == most) }
     ensures low { result ≡ false → last < 4000000000 }
 {
-    last >= MOST
+    last == MOST
 }
 
 impl<F: Medium, D: Medium> Queue<F, D> {
@@ -79,6 +80,7 @@ impl<F: Medium, D: Medium> Queue<F, D> {
 
     // The same, and the number is then the last.
     fn append(&mut self, trailer: &Trailer, body: &[u8; BODY]) -> Result<(), Fault>
+        requires { trailer.now.q ≤ 4000000000 }
         ensures { Does F.Medium D.Medium self.old self.new result
             (λ x. append x trailer.now body.now) }
     {

@@ -1,7 +1,4 @@
-ghost use Rattle.std.specs.Prelude.{◌≡◌};
-ghost use Rattle.medium.specs.Meaning.{size};
-ghost use Rattle.rules.specs.Store.{forgotten};
-ghost use Rattle.queue.specs.View.{view, unused, Reliable};
+ghost use Rattle.std.specs.Prelude.{◌≤◌};
 
 use medium::Medium;
 use recovery::directory::no_entries;
@@ -10,15 +7,22 @@ use rules::trailer::Trailer;
 
 // A flash queue over a disk: the two media, the first live number and the last, and the directory, which has the
 // trailer of each live number in the slot of its frame.
-pub struct Queue<F: Medium, D: Medium> {
+pub struct Queue<F, D> {
     pub(crate) flash: F,
     pub(crate) disk: D,
     pub(crate) front: u32,
     pub(crate) last: u32,
     pub(crate) entries: [Option<Trailer>; SLOTS],
+    // No number is above the highest.
+    ghost last_in_range: { last ≤ 4000000000 },
 }
 
 impl<F: Medium, D: Medium> Queue<F, D> {
+    ghost use Rattle.std.specs.Prelude.{◌≡◌};
+    ghost use Rattle.medium.specs.Meaning.{size};
+    ghost use Rattle.rules.specs.Store.{forgotten};
+    ghost use Rattle.queue.specs.View.{view, unused, Reliable};
+
     // A queue over two media, without memory of them.
     pub fn new(flash: F, disk: D) -> Queue<F, D>
         ensures made { view F.Medium D.Medium result ≡ unused (F.Medium.means flash) (D.Medium.means disk) }

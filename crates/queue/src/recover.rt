@@ -1,3 +1,4 @@
+ghost use Rattle.std.specs.Prelude.{◌≤◌, IfOk};
 ghost use Rattle.medium.specs.Meaning.{size};
 ghost use Rattle.rules.specs.Recovery.{recover};
 ghost use Rattle.recovery.specs.Reread.{reread};
@@ -29,6 +30,7 @@ impl<F: Medium, D: Medium> Queue<F, D> {
 
     // What was read back is the queue's memory now.
     fn adopt(&mut self, back: &Recovered)
+        requires { back.now.found.last ≤ 4000000000 }
         ensures { Changes F.Medium D.Medium self.old self.new
             (λ x. adopted x back.now) }
     {
@@ -39,7 +41,8 @@ impl<F: Medium, D: Medium> Queue<F, D> {
 
     // What the flash has of a queue's memory.
     fn read_flash(&mut self) -> Result<Recovered, Fault>
-        ensures { Finds F.Medium D.Medium self.old self.new result
+        ensures most { IfOk result (λ b. b.found.last ≤ 4000000000) }
+        ensures found { Finds F.Medium D.Medium self.old self.new result
             (λ x. reread x.flash (size x.disk)) }
     {
         let pages = self.disk.size();

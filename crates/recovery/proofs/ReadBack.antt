@@ -4,7 +4,7 @@ use Rattle.medium.specs.Meaning.{Meaning}
 use Rattle.rules.specs.declared.fault.Fault.{Fault}
 use Rattle.rules.specs.Format.{Segment}
 use Rattle.rules.specs.Queue.{groups}
-use Rattle.rules.specs.Recovery.{Tail, Entries, read_segments, read_tail, newest, last_of, front_at, gather}
+use Rattle.rules.specs.Recovery.{Tail, Entries, read_segments, read_tail, newest, last_of, gather}
 use Rattle.recovery.specs.declared.recovered.Recovered.{Recovered}
 use Rattle.recovery.specs.Tails.{tail_left}
 use Rattle.recovery.specs.Assembled.{put_together, assembled, last_in, live_in, front_in}

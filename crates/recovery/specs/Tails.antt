@@ -1,5 +1,5 @@
 -- The tail, one frame and then all.
-use Rattle.std.specs.Prelude.{ℕ, ◌+◌, ◌-◌, Bool, cond, ◌&&◌, List, take, Some, None, Ok, Err, Option, Result, ◌==◌, nat_lt}
+use Rattle.std.specs.Prelude.{ℕ, ◌+◌, ◌-◌, Bool, cond, ◌&&◌, take, Some, None, Ok, Err, Option, Result, ◌==◌, nat_lt}
 use Rattle.medium.specs.Meaning.{Page, Meaning, page}
 use Rattle.rules.specs.declared.fault.Fault.{Fault}
 use Rattle.rules.specs.declared.trailer.Trailer.{Trailer}

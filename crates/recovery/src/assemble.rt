@@ -1,4 +1,4 @@
-ghost use Rattle.std.specs.Prelude.{◌≡◌, ◌≤◌};
+ghost use Rattle.std.specs.Prelude.{◌≡◌, ◌+◌, ◌≤◌, IfOk};
 ghost use Rattle.format.specs.Segments.{all_said};
 ghost use Rattle.rules.specs.Recovery.{last_of};
 ghost use Rattle.recovery.specs.Segments.{Within, table_said};
@@ -44,8 +44,10 @@ pub(crate) fn assemble(groups: u16, segments: &Segments, tail: &Tail) -> Result<
     requires groups { (1 ≤ groups) × (groups ≤ 14) }
     requires newest { Within segments.now.newest }
     requires tail { (tail.now.count ≤ 15) × (tail.now.reads ≤ 15) }
-    ensures { result ≡ assembled groups (all_said segments.now.newest)
+    requires last { last_of (all_said segments.now.newest) + tail.now.count ≤ 4000000000 }
+    ensures exact { result ≡ assembled groups (all_said segments.now.newest)
         (table_said groups segments.now.places) (tail_of tail.now) }
+    ensures most { IfOk result (λ r. r.found.last ≤ 4000000000) }
 {
     let base = last_of(&segments.newest);
     let last = base + u32::from(tail.count);

@@ -1,4 +1,4 @@
-ghost use Rattle.std.specs.Prelude.{◌≡◌, ◌≤◌};
+ghost use Rattle.std.specs.Prelude.{◌≡◌, ◌≤◌, IfOk};
 ghost use Rattle.rules.specs.Queue.{groups};
 ghost use Rattle.recovery.specs.Reread.{reread};
 
@@ -32,6 +32,7 @@ pub fn read_back<F: Medium>(flash: &mut F, pages: u16) -> Result<Recovered, Faul
         → 1 ≤ groups (F.Medium.means flash.old)
         → groups (F.Medium.means flash.old) ≤ 14
         → result ≡ reread (F.Medium.means flash.old) pages }
+    ensures most { IfOk result (λ r. r.found.last ≤ 4000000000) }
 {
     let s = groups_of(flash.size());
     if s < 1 || s > MOST_GROUPS {

@@ -1,4 +1,5 @@
-ghost use Rattle.std.specs.Prelude.{◌≡◌, ◌+◌, ◌<◌, ◌≤◌, take, IfOk};
+ghost use Rattle.std.specs.Prelude.{◌≡◌, ◌+◌, ◌<◌, ◌≤◌, take, IfOk, IfSome};
+ghost use Rattle.format.specs.Pages.{trailer_of};
 ghost use Rattle.rules.specs.Queue.{frames as frames_of};
 ghost use Rattle.recovery.specs.Tails.{was_in, sorted, one_frame, tail_of, tail_said, tail_left};
 
@@ -26,10 +27,19 @@ fn was_in(frames: u16, q: u32, number: u32) -> bool
     number < q && slot(number, frames) == slot(q, frames)
 }
 
+// The trailer of a page, if it is proper: its number is in range.
+fn trailer_on(page: &[u8], pages: u16) -> Option<Trailer>
+    ensures exact { result ≡ trailer_of pages page.now }
+    ensures most { IfSome result (λ t. t.q ≤ 4000000000) }
+{
+    read_trailer(page, pages)
+}
+
 // What the trailer in the frame of q says of the tail: it goes on with q, or it ends at an older number.
 fn sort(frames: u16, q: u32, trailer: Option<Trailer>) -> Result<Option<Trailer>, Fault>
     requires { 1 ≤ frames }
-    ensures { result ≡ sorted frames q trailer }
+    ensures exact { result ≡ sorted frames q trailer }
+    ensures most { IfSome trailer (λ t. t.q ≤ 4000000000) → IfOk result (λ o. IfSome o (λ _. q ≤ 4000000000)) }
 {
     let foreign = Fault::touched(Refusal::Foreign, Side::Flash, slot(q, frames));
     match trailer {
@@ -60,10 +70,11 @@ fn read_one<F: Medium>(
     ensures found { F.Medium.inorder flash.old
         → frames_of (F.Medium.means flash.old) ≡ frames
         → result ≡ one_frame (F.Medium.means flash.old) pages q }
+    ensures most { IfOk result (λ o. IfSome o (λ _. q ≤ 4000000000)) }
 {
     match look(flash, Side::Flash, slot(q, frames))? {
         None => Ok(None),
-        Some(bytes) => sort(frames, q, read_trailer(&bytes, pages)),
+        Some(bytes) => sort(frames, q, trailer_on(&bytes, pages)),
     }
 }
 
@@ -72,6 +83,7 @@ fn ended(trailers: [Trailer; DESCRIBED], count: u16) -> Tail
     requires { count < 15 }
     ensures said { tail_of result ≡ record { trailers = take count trailers; reads = count + 1 } }
     ensures most { (result.count ≤ 15) × (result.reads ≤ 15) }
+    ensures counts { result.count ≡ count }
 {
     Tail {
         trailers,
@@ -95,6 +107,7 @@ pub(crate) fn read_tail<F: Medium>(
         → frames_of (F.Medium.means flash.old) ≡ frames
         → tail_said result ≡ tail_left (F.Medium.means flash.old) pages (after + 1) 0 }
     ensures most { IfOk result (λ t. (t.count ≤ 15) × (t.reads ≤ 15)) }
+    ensures last { IfOk result (λ t. after + t.count ≤ 4000000000) }
 {
     let mut trailers = [BLANK; DESCRIBED];
     for i in 0..GROUP {

@@ -1,6 +1,5 @@
-use Rattle.std.proofs.Common.{◌≡◌, ℕ, ◌+◌, ◌-◌, ◌<◌, List, [], ◌∷◌, ◌++◌, length, take, sym, refl, ap, ◌∙◌, ap₂, arith, length-set, rules}
+use Rattle.std.proofs.Common.{◌≡◌, ◌-◌, ◌<◌, [], ◌∷◌, ◌++◌, length, sym, refl, ◌∙◌, ap₂, arith, length-set, rules}
 use Rattle.std.proofs.lemmas.List.{take_more_set, take_all}
-use Rattle.rules.specs.Format.{Segment}
 use Rattle.queue.specs.Runs.{run_in}
 use Rattle.queue.proofs.Runs.{run_more}
 use Rattle.queue.proofs.segment.segment_of.Goals as goal

@@ -1,4 +1,4 @@
-use Rattle.std.proofs.Common.{◌≡◌, ◌+◌, ◌-◌, ◌/◌, ◌%◌, take, ◌∙◌, ap₂, arith}
+use Rattle.std.proofs.Common.{◌≡◌, ◌+◌, ◌-◌, ◌/◌, ◌%◌, take, ap₂, arith}
 use Rattle.recovery.proofs.Described.{seat_is}
 use Rattle.recovery.proofs.directory.described.Goals as goal
 

@@ -33,6 +33,7 @@ returns-in_err-tail g c =
           rw (was.1, was.2)
           (stops_at_frame m c.args.pages s few (table_said s found.places) (all_said found.newest)
           c.last_of.result x (segments.found ok few) segments.newest c.last_of.ensures.exact same e here);
+      most = rw was.1 tt;
     }
 
 pub returns : goal.returns
@@ -53,5 +54,6 @@ returns g c =
           c.in_ok-tail.ensures.found (segments.keeps ok) (ap frames same ∙ ap (λ n. 15 * n) few) in
           reads_all m c.args.pages s few (table_said s found.places) (all_said found.newest)
           c.last_of.result x (segments.found ok few) segments.newest c.last_of.ensures.exact same
-          (tail_of c.in_ok-tail.tail) c.assemble.result here c.assemble.ensures;
+          (tail_of c.in_ok-tail.tail) c.assemble.result here c.assemble.ensures.exact;
+      most = c.assemble.ensures.most;
     }

@@ -1,4 +1,4 @@
-use Rattle.std.proofs.Common.{◌≡◌, ℕ, ◌+◌, [], ◌∷◌, ◌++◌, length, take, set, Ok, sym, ap, ◌∙◌, arith, length-set}
+use Rattle.std.proofs.Common.{◌≡◌, ◌+◌, [], ◌∷◌, ◌++◌, length, take, set, Ok, sym, ap, ◌∙◌, arith, length-set}
 use Rattle.std.proofs.lemmas.List.{take_more_set, length-take}
 use Rattle.std.proofs.lemmas.Result.{err_from_is_err_and}
 use Rattle.rules.specs.Queue.{frames}
@@ -27,6 +27,7 @@ returns-in_err-trailer g c =
           (inv.2 ok) c.from.ensures (omega arith)
           (c.read_one.ensures.found (inv.1 ok) (ap frames (inv.2 ok) ∙ few)) e c.in_err-trailer.was);
       most = tt;
+      last = tt;
     })
 
 pub returns-in-None : goal.returns-in-None
@@ -50,6 +51,7 @@ returns-in-None g c =
           (c.read_one.ensures.found (inv.1 ok) (ap frames (inv.2 ok) ∙ few))
           (c.in_ok-trailer.was ∙ ap Ok c.in-None.is) long);
       most = c.ended.ensures.most;
+      last = omega (arith, c.ended.ensures.counts, inv.4);
     }
 
 pub loop-i-preserved : goal.loop-i-preserved
@@ -74,6 +76,7 @@ loop-i-preserved g c =
           (c.read_one.ensures.found (inv.1 ok) (ap frames (inv.2 ok) ∙ few)) t
           (c.in_ok-trailer.was ∙ ap Ok c.in-Some.is)
           ∙ ap (λ ts. ahead ts (tail_left m p q (i + 1))) (sym one),
+      omega (arith, c.from.ensures, rw c.in-Some.is at c.in_ok-trailer.ensures.most),
     )
 
 pub returns : goal.returns
@@ -94,4 +97,5 @@ returns g c =
           sym (tail_all m p q i ts (tail_left m p q 0) (inv.3 ok few) end long
           ∙ ap (λ k. tail_with (take k c.loop-i.trailers) 15) end);
       most = (omega arith, omega arith);
+      last = omega arith;
     }

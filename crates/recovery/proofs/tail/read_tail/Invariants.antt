@@ -1,4 +1,4 @@
-use Rattle.std.proofs.Common.{◌≡◌, ◌+◌, length, take}
+use Rattle.std.proofs.Common.{◌≡◌, ◌+◌, ◌≤◌, length, take}
 use Rattle.rules.specs.Queue.{frames}
 use Rattle.recovery.specs.Tails.{tail_left}
 use Rattle.recovery.proofs.TailFrames.{ahead}
@@ -14,3 +14,4 @@ invariant-loop-i g l =
     → tail_left (g.F.Medium.means l.initial.flash) l.pages (l.after + 1) 0
     ≡ ahead (take l.i l.trailers)
     (tail_left (g.F.Medium.means l.initial.flash) l.pages (l.after + 1) l.i))
+    × (l.after + l.i ≤ 4000000000)

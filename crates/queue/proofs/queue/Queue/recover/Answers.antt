@@ -1,9 +1,9 @@
-use Rattle.std.proofs.Common.{◌≡◌, Ok, Err, sym, ap, ◌∙◌, subst}
+use Rattle.std.proofs.Common.{Ok, Err, sym, subst}
 use Rattle.std.proofs.lemmas.Result.{err_from_is_err_and}
 use Rattle.medium.specs.Outcome.{Gives}
 use Rattle.rules.specs.Queue.{Queue as RulesQueue}
 use Rattle.rules.specs.Recovery.{recover}
-use Rattle.queue.specs.Back.{describes, adopted}
+use Rattle.queue.specs.Back.{describes}
 use Rattle.queue.specs.View.{view}
 use Rattle.queue.proofs.Recovering.{not_read, recovered, not_described}
 use Rattle.queue.proofs.queue.Queue.recover.Goals as goal
@@ -11,7 +11,7 @@ use Rattle.queue.proofs.queue.Queue.recover.Goals as goal
 pub returns-in_err-back : goal.returns-in_err-back
 returns-in_err-back g c = λ o.
     let x = view g.F.Medium g.D.Medium c.args.self.now in
-    let (kept, same, read) = c.in_err-back.ensures o in
+    let (kept, same, read) = c.in_err-back.ensures.found o in
     let e = err_from_is_err_and c.from_residual.result c.from_residual.ensures.1 in
     rw (e.1, e.2) (
       kept,
@@ -24,7 +24,7 @@ returns-in_err-describe_tail g c = λ o.
     let see = view g.F.Medium g.D.Medium in
     let x = see c.args.self.now in
     let b = c.in_ok-back.back in
-    let (still, same, read) = c.in_ok-back.ensures o in
+    let (still, same, read) = c.in_ok-back.ensures.found o in
     let (kept, failed) = c.in_err-describe_tail.ensures still in
     let f = c.in_err-describe_tail.field-0.0 in
     let z = see c.describe_tail.new.self in
@@ -42,7 +42,7 @@ returns g c = λ o.
     let see = view g.F.Medium g.D.Medium in
     let x = see c.args.self.now in
     let b = c.in_ok-back.back in
-    let (still, same, read) = c.in_ok-back.ensures o in
+    let (still, same, read) = c.in_ok-back.ensures.found o in
     let (there, put) = c.in_ok-describe_tail.ensures still in
     let (kept, is) = c.adopt.ensures there in
     let z = see c.describe_tail.new.self in (

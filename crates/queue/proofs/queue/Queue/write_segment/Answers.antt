@@ -11,7 +11,9 @@ returns g c = λ o.
     let many : c.frames_of.result ≡ frames (see c.args.self.now).flash =
     c.frames_of.ensures.exact ∙ ap (λ n. 15 * ((n - 1) / 16)) size_is in
     let some : 1 ≤ c.frames_of.result = omega (arith, many, o.sized.least) in
-    let (kept, put) = c.put_flash.ensures o in (
+    let (kept, put) =
+    c.put_flash.ensures
+    (record { media = record { flash = o.media.flash; disk = o.media.disk }; sized = o.sized }) in (
       kept,
       segment_given (see c.args.self.now) (see c.put_flash.new.self) c.segment_bytes-bytes.result
           c.frames_of.result c.segment_page.result c.put_flash.result many
