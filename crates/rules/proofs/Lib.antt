@@ -24,3 +24,4 @@ pub mod Theorem
 pub mod Promised
 pub mod Quiet
 pub mod Durability
+pub mod InRange

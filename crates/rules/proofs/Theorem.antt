@@ -108,7 +108,7 @@ fresh_rests x fr =
     }
 
 -- The invariant holds after every run.
-run_keeps : {x : Store} {b : Book} → Run x b → Invariant x b
+pub run_keeps : {x : Store} {b : Book} → Run x b → Invariant x b
 run_keeps (begun {x = x} fr) = stays x opened state.Shut fr.shut_yet (fresh_rests x fr)
 run_keeps (next {x = x} {y = y} {b = b} before c r ws ends) =
     ended b c (step x c) (step_by x b x.state refl (run_keeps before) c) r y ws ends

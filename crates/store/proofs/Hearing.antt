@@ -1,5 +1,5 @@
 -- A rule of the queue, as the store hears its answer.
-use Rattle.std.proofs.Common.{◌≡◌, ℕ, Bool, true, false, cond, Ok, Err, Result, sym, refl, ap, ◌∙◌, subst, arith}
+use Rattle.std.proofs.Common.{◌≡◌, ℕ, Bool, true, false, cond, Ok, Err, refl, ap, ◌∙◌, arith}
 use Rattle.medium.specs.Outcome.{Outcome, done, refused, struck, Gives}
 use Rattle.rules.specs.declared.fault.Fault.{Fault}
 use Rattle.rules.specs.declared.state.State.{State}

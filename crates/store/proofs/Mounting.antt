@@ -1,5 +1,5 @@
 -- A mount that failed in recovery.
-use Rattle.std.proofs.Common.{◌≡◌, ℕ, Bool, true, cond, [], Ok, Err, sym, refl, ap, ◌∙◌, subst}
+use Rattle.std.proofs.Common.{◌≡◌, ℕ, Bool, true, cond, [], Err, sym, subst}
 use Rattle.medium.specs.Outcome.{Gives, done}
 use Rattle.rules.specs.declared.fault.Fault.{Fault}
 use Rattle.rules.specs.declared.fault.Refusal.TheVariants as refusal

@@ -1,6 +1,6 @@
 -- A page that is brought into RAM and held, by what the steps give.
 use Rattle.std.proofs.Common.{◌≡◌, ℕ, ◌+◌, ◌<◌, Bool, true, false, cond, eqb, [], take, Some, None, Ok, Err, Option, Result, sym, refl, ap, ◌∙◌, subst, arith}
-use Rattle.std.proofs.lemmas.Bool.{lt-leb}
+use Rattle.std.proofs.lemmas.Bool.{ne_eqb}
 use Rattle.medium.specs.Meaning.{Bytes, Page, size, page}
 use Rattle.medium.specs.Outcome.{Outcome, Gives, done, refused, struck}
 use Rattle.rules.specs.declared.fault.Fault.{Fault}
@@ -12,7 +12,7 @@ use Rattle.rules.specs.Format.{most, proper}
 use Rattle.rules.specs.Queue.{Queue, valid, checked, enqueue}
 use Rattle.rules.specs.Ram.{card_at, body_at, last_free, fetched}
 use Rattle.rules.specs.Refusals.{touched}
-use Rattle.rules.specs.Steps.{after, then_do}
+use Rattle.rules.specs.Steps.{then_do}
 use Rattle.rules.specs.Store.{Store, Way, Answer, on_queue, emptied, leave, must_go, enqueue_frame, empty_frame}
 use Rattle.rules.specs.Store.{darkened, filled, from_flash, of_page, from_disk, from_valid, fetch}
 use Rattle.rules.specs.Store.{bring, take_of, hold_frame, refuse}
@@ -103,7 +103,7 @@ module _ (x : Store) (p f : ℕ) (k : Option ℕ) (free : Some f ≡ last_free x
   by_frame r z g =
       subst (λ (o : Option ℕ). Gives (bring x p o) r z) free
       (subst (λ (b : Bool). Gives (cond b (refuse refusal.Spent x) (rest (card_at x.ram f).page)) r z)
-      (sym (lt-leb most x.holds low)) (subst (λ (o : Option ℕ). Gives (rest o) r z) left g))
+      (sym (ne_eqb x.holds most (λ e. absurd (omega (arith, e, low))))) (subst (λ (o : Option ℕ). Gives (rest o) r z) left g))
 
   module _ (y : Store) (out : Gives (empty_frame x f) (Ok tt) y) where
     pub brought : (z w : Store) (a : Answer) → Gives (fetch y f p) (Ok tt) z → Gives (hold_frame z f k) (Ok a) w

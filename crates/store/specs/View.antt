@@ -1,12 +1,12 @@
 -- What a store is to the rules, and how its functions are said to do what the rules give.
-use Rattle.std.specs.Prelude.{◌≡◌, ℕ, Ok, Err, Result}
+use Rattle.std.specs.Prelude.{◌≡◌, ℕ, ◌≤◌, Ok, Err, Result}
 use Rattle.medium.specs.declared.Medium.{Ghosts}
 use Rattle.medium.specs.Outcome.{Outcome, Gives}
 use Rattle.rules.specs.declared.fault.Fault.{Fault}
 use Rattle.rules.specs.declared.state.State.TheVariants as state
 use Rattle.rules.specs.Promise.{Promise}
 use Rattle.rules.specs.Queue.{Queue as RulesQueue}
-use Rattle.rules.specs.Ram.{Ram, fresh}
+use Rattle.rules.specs.Ram.{Ram, fresh, card_at}
 use Rattle.rules.specs.Store.{Store as RulesStore, Call, Answer, step, mount_shut, took}
 use Rattle.queue.specs.View as queue
 use Rattle.store.specs.declared.frames.Frames.{Frames}
@@ -30,7 +30,18 @@ abbrev pub first : RulesQueue → RulesStore
 first y = record { state = state.Shut; ram = fresh 0; queue = y; holds = 0 }
 
 abbrev pub granted : Hold → Answer
-granted h = took h.grant
+granted h =
+    took
+    (record {
+      frame = h.grant.frame;
+      number = h.grant.number;
+      version = h.grant.version;
+      evicted = h.grant.evicted;
+    })
+
+-- In service no version in RAM is above the highest. Every run keeps it so.
+abbrev pub InRange : {F D : Type 0} → Store F D → Type 0
+InRange s = s.state ≡ state.Up → (f : ℕ) → (card_at (ram_of s.frames) f).version ≤ 4000000000
 
 -- All but the queue is as it was.
 pub record Beside {F D : Type 0} (s t : Store F D) : Type 0 where

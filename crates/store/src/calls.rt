@@ -5,7 +5,7 @@ ghost use Rattle.rules.specs.Store.{mount as mount_call, take_page, read as read
 ghost use Rattle.rules.specs.Store.{give_back, checkpoint as checkpoint_call, power_cycle};
 ghost use Rattle.rules.specs.Store.{mounted, gave, wrote, given, saved, cycled, fits};
 ghost use Rattle.queue.specs.View as queue;
-ghost use Rattle.store.specs.View.{view, first, InOrder, Does, Stands, answered, granted};
+ghost use Rattle.store.specs.View.{view, first, InOrder, InRange, Does, Stands, answered, granted};
 
 use crate::frames::Frames;
 use crate::hold::Hold;
@@ -92,7 +92,7 @@ impl<F: Medium, D: Medium> Store<F, D> {
 
     // Puts bytes at an offset of the held body, and answers the new version.
     pub fn write(&mut self, hold: &Hold, offset: usize, bytes: &[u8]) -> Result<u32, Fault>
-        ensures does { Does F.Medium D.Medium self.old self.new (answered wrote result)
+        ensures does { InRange self.old → Does F.Medium D.Medium self.old self.new (answered wrote result)
             (write_call hold.now.grant.frame hold.now.grant.number offset
             bytes.now) }
         ensures stands { Stands F.Medium D.Medium self.old self.new (answered wrote result)

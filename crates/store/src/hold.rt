@@ -7,14 +7,6 @@ pub struct Hold {
     pub(crate) grant: Grant,
 }
 
-impl Drop for Hold {
-    fn drop(self)
-        requires { ⊥ }
-    {
-        let Hold { grant: _ } = self;
-    }
-}
-
 impl Hold {
     pub(crate) fn spend(self) -> Grant
         ensures { result ≡ self.grant }

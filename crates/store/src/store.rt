@@ -1,5 +1,6 @@
+ghost use Rattle.std.specs.Prelude.{◌≤◌};
+
 use crate::frames::Frames;
-use medium::Medium;
 use queue::queue::Queue;
 use rules::state::State;
 
@@ -7,10 +8,12 @@ use rules::state::State;
 pub(crate) const MOST: u32 = 4_000_000_000;
 
 // A store of show pages: RAM frames over a flash queue over a disk.
-pub struct Store<F: Medium, D: Medium> {
+pub struct Store<F, D> {
     pub(crate) state: State,
     pub(crate) frames: Frames,
     pub(crate) queue: Queue<F, D>,
     // the last hold number given
     pub(crate) holds: u32,
+    // It is not above the highest.
+    ghost holds_in_range: { holds ≤ 4000000000 },
 }

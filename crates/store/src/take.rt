@@ -1,4 +1,4 @@
-ghost use Rattle.std.specs.Prelude.{◌≡◌, ◌+◌, ◌<◌, Some, None, Ok};
+ghost use Rattle.std.specs.Prelude.{◌≡◌, ◌+◌, ◌<◌, ◌≤◌, Some, None, Ok};
 ghost use Rattle.rules.specs.Store.{bring, hold_frame, take_of, take_up};
 ghost use Rattle.rules.specs.Ram.{last_free};
 ghost use Rattle.store.specs.View.{Works, answered, granted};
@@ -12,7 +12,8 @@ use rules::table::Grant;
 impl<F: Medium, D: Medium> Store<F, D> {
     // Holds a frame under the next number.
     fn hold_frame(&mut self, frame: u8, number: u32, evicted: Option<u16>) -> Hold
-        requires { frame < 16 }
+        requires frame { frame < 16 }
+        requires number { number ≤ 4000000000 }
         ensures { number ≡ self.old.holds + 1
             → Works F.Medium D.Medium self.old self.new (Ok (granted result))
             (λ x. hold_frame x frame evicted) }
@@ -39,7 +40,7 @@ impl<F: Medium, D: Medium> Store<F, D> {
         if self.frames.card(frame).hold != 0 {
             return Err(Fault::plain(Refusal::Held));
         }
-        if self.holds >= MOST {
+        if self.holds == MOST {
             return Err(Fault::plain(Refusal::Spent));
         }
         Ok(self.hold_frame(frame, self.holds + 1, None))
@@ -53,7 +54,7 @@ impl<F: Medium, D: Medium> Store<F, D> {
         let Some(frame) = self.frames.last_free() else {
             return Err(Fault::plain(Refusal::AllHeld));
         };
-        if self.holds >= MOST {
+        if self.holds == MOST {
             return Err(Fault::plain(Refusal::Spent));
         }
         let number = self.holds + 1;

@@ -1,5 +1,5 @@
 use Rattle.std.proofs.Common.{ap}
-use Rattle.rules.specs.Ram.{Ram, no_cards, no_bodies}
+use Rattle.rules.specs.Ram.{no_cards, no_bodies}
 use Rattle.store.proofs.frames.Frames.fresh.Goals as goal
 
 pub returns : goal.returns

@@ -1,4 +1,4 @@
-use Rattle.std.proofs.Common.{◌≡◌, ◌<◌, ◌≤◌, length, sym, ◌∙◌, arith, rules}
+use Rattle.std.proofs.Common.{◌<◌, ◌≤◌, length, sym, ◌∙◌, arith, rules}
 use Rattle.rules.specs.Ram.{last_free}
 use Rattle.store.specs.View.{ram_of}
 use Rattle.store.proofs.Free.{or_none, free_later, free_before, free_all}

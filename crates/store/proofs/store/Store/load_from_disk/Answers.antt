@@ -1,4 +1,4 @@
-use Rattle.std.proofs.Common.{◌≡◌, Ok, sym, refl, ap, ◌∙◌, arith}
+use Rattle.std.proofs.Common.{Ok, sym, ap, ◌∙◌, arith}
 use Rattle.store.specs.View.{view}
 use Rattle.store.proofs.Fetching.{from_disk_given}
 use Rattle.store.proofs.store.Store.load_from_disk.Goals as goal

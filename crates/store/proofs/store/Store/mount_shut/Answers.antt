@@ -1,7 +1,6 @@
-use Rattle.std.proofs.Common.{◌≡◌, true, sym, ap, ◌∙◌, ap₂, rules}
+use Rattle.std.proofs.Common.{◌≡◌, true, rules}
 use Rattle.queue.specs.View as queue
 use Rattle.rules.specs.Store.{fits}
-use Rattle.store.specs.Parts.{fit}
 use Rattle.store.specs.View.{view}
 use Rattle.store.proofs.Mounting.{mount_failed}
 use Rattle.store.proofs.store.Store.mount_shut.Goals as goal

@@ -1,10 +1,9 @@
 use Rattle.std.proofs.Common.{◌≡◌, ℕ, sym, refl, ap, ◌∙◌, subst, arith}
-use Rattle.rules.specs.declared.state.State.TheVariants as state
 use Rattle.rules.specs.Book.{opened}
 use Rattle.rules.specs.Promise.{Run, begun}
 use Rattle.rules.specs.Store.{Store as RulesStore}
 use Rattle.queue.specs.View as queue
-use Rattle.store.specs.View.{view, first}
+use Rattle.store.specs.View.{first}
 use Rattle.store.proofs.store.Store.new.Goals as goal
 
 pub returns : goal.returns

@@ -1,4 +1,4 @@
-use Rattle.std.proofs.Common.{◌≡◌, ◌-◌, ◌≤◌, Result}
+use Rattle.std.proofs.Common.{◌-◌, ◌≤◌, Result}
 use Rattle.medium.specs.Outcome.{Gives}
 use Rattle.rules.specs.declared.fault.Fault.{Fault}
 use Rattle.rules.specs.Store.{Store, Answer, save_all}
