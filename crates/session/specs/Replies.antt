@@ -11,7 +11,7 @@ use Rattle.rules.specs.Book.{Book}
 use Rattle.rules.specs.Promise.{Run}
 use Rattle.rules.specs.Store.{Store, step, mount, take_page, read, write, give_back, checkpoint, power_cycle}
 use Rattle.rules.specs.Store.{mounted, took, gave, wrote, given, saved, cycled}
-use Rattle.store.specs.View.{answered, view, InOrder}
+use Rattle.store.specs.View.{answered, as_hold, view, InOrder}
 use Rattle.store.specs.declared.store.Store.{Store as CodeStore}
 use Rattle.board.specs.declared.command.Command.{Command}
 use Rattle.board.specs.declared.command.Command.TheVariants as command
@@ -35,7 +35,7 @@ abbrev pub RefusedTake : Letter → ℕ → Store → Store → Reply → Type 0
 RefusedTake l p x z r = (e : Fault) × Gives (step x (take_page p)) (Err e) z × (r ≡ reply.Refused l e.cause)
 
 abbrev pub Taken : ℕ → Store → Store → Grant → Type 0
-Taken p x y h = Gives (step x (take_page p)) (Ok (took h)) y
+Taken p x y h = Gives (step x (take_page p)) (Ok (took (as_hold h))) y
 
 -- It is given back, whatever the answer.
 abbrev pub GivenBack : Grant → Store → Store → Type 0
@@ -62,11 +62,15 @@ Gets p o x z r =
     × GivenBack h w z
     × (r ≡ replied letter.Get (got o body) v))
 
+-- Of a store behind which a run lies.
+abbrev pub InRun : Store → Type 0 → Type 0
+InRun x says = (b : Book) → Run x b → says
+
 abbrev pub Replies : Command → Store → Store → Reply → Type 0
 Replies (command.Mount frames) x z r =
     (a : Result Mounted Fault) × Gives (step x (mount frames)) (answered mounted a) z
     × (r ≡ replied letter.Mount reply.Mounted a)
-Replies (command.Save page offset byte) x z r = Saves page offset byte x z r
+Replies (command.Save page offset byte) x z r = InRun x (Saves page offset byte x z r)
 Replies (command.Get page offset) x z r = Gets page offset x z r
 Replies command.Checkpoint x z r =
     (a : Result ℕ Fault) × Gives (step x checkpoint) (answered saved a) z × (r ≡ replied letter.Checkpoint reply.Kept a)

@@ -1,7 +1,7 @@
 ghost use Rattle.std.specs.Prelude.{◌≡◌};
 ghost use Rattle.board.specs.declared.reply.Reply.TheVariants as reply;
 ghost use Rattle.board.specs.Lines.{command_of};
-ghost use Rattle.session.specs.Replies.{Replies, RepliesTo, Saves, Gets, Answers, Goes, got};
+ghost use Rattle.session.specs.Replies.{Replies, RepliesTo, InRun, Saves, Gets, Answers, Goes, got};
 
 use board::command::{Command, Letter, parse};
 use board::reply::Reply;
@@ -22,7 +22,7 @@ fn refused(letter: Letter, fault: Fault) -> Reply
 // Takes a page, writes a byte at an offset, and gives the page back.
 fn save<F: Medium, D: Medium>(store: &mut Store<F, D>, page: u32, offset: u32, byte: u8) -> Reply
     ensures does { Answers F.Medium D.Medium store.old store.new
-        (λ x z. Saves page offset byte x z result) }
+        (λ x z. InRun x (Saves page offset byte x z result)) }
     ensures goes { Goes F.Medium D.Medium store.old store.new }
 {
     let hold = match store.take(page) {

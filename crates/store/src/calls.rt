@@ -92,6 +92,7 @@ impl<F: Medium, D: Medium> Store<F, D> {
 
     // Puts bytes at an offset of the held body, and answers the new version.
     pub fn write(&mut self, hold: &Hold, offset: usize, bytes: &[u8]) -> Result<u32, Fault>
+        ensures keeps { InOrder F.Medium D.Medium self.old → InOrder F.Medium D.Medium self.new }
         ensures does { InRange self.old → Does F.Medium D.Medium self.old self.new (answered wrote result)
             (write_call hold.now.grant.frame hold.now.grant.number offset
             bytes.now) }

@@ -1,6 +1,7 @@
 ghost use Rattle.std.specs.Prelude.{◌≡◌, ◌≤◌, length, Err};
 ghost use Rattle.rules.specs.Store.{read_up, write_up, give_up, gave, wrote, given};
 ghost use Rattle.rules.specs.Ram.{card_at};
+ghost use Rattle.queue.specs.View as queue;
 ghost use Rattle.store.specs.View.{Works, answered, ram_of};
 
 use crate::hold::Hold;
@@ -34,7 +35,9 @@ impl<F: Medium, D: Medium> Store<F, D> {
         offset: usize,
         bytes: &[u8],
     ) -> Result<u32, Fault>
-        ensures { (card_at (ram_of self.old.frames) hold.now.grant.frame).version ≤ 4000000000
+        ensures keeps { queue.InOrder F.Medium D.Medium self.old.queue
+            → queue.InOrder F.Medium D.Medium self.new.queue }
+        ensures works { (card_at (ram_of self.old.frames) hold.now.grant.frame).version ≤ 4000000000
             → Works F.Medium D.Medium self.old self.new (answered wrote result)
             (λ x. write_up x hold.now.grant.frame hold.now.grant.number offset bytes.now) }
     {

@@ -2,7 +2,7 @@ ghost use Rattle.std.specs.Prelude.{◌≡◌, length, Err};
 ghost use Rattle.rules.specs.Store.{mount as mount_call, take_page, read as read_call, write as write_call};
 ghost use Rattle.rules.specs.Store.{give_back, checkpoint as checkpoint_call};
 ghost use Rattle.rules.specs.Store.{mounted, gave, wrote, given, saved};
-ghost use Rattle.store.specs.View.{Does, InRange, answered, granted};
+ghost use Rattle.store.specs.View.{Does, InOrder, InRange, answered, granted};
 
 use crate::admit::{Asked, admit};
 use crate::hold::Hold;
@@ -45,7 +45,8 @@ impl<F: Medium, D: Medium> Store<F, D> {
         offset: usize,
         bytes: &[u8],
     ) -> Result<u32, Fault>
-        ensures { InRange self.old → Does F.Medium D.Medium self.old self.new (answered wrote result)
+        ensures keeps { InOrder F.Medium D.Medium self.old → InOrder F.Medium D.Medium self.new }
+        ensures does { InRange self.old → Does F.Medium D.Medium self.old self.new (answered wrote result)
             (write_call hold.now.grant.frame hold.now.grant.number offset bytes.now) }
     {
         admit(self.state, Asked::Service)?;

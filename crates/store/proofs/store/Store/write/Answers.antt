@@ -6,9 +6,10 @@ use Rattle.store.proofs.store.Store.write.Goals as goal
 pub returns : goal.returns
 returns g c =
     record {
-      does = c.serve_write.ensures;
+      keeps = c.serve_write.ensures.keeps;
+      does = c.serve_write.ensures.does;
       stands = λ o.
           λ b run.
           let x = view g.F.Medium g.D.Medium c.args.self.now in
-          each_call _ _ _ _ (c.serve_write.ensures (versions_in_range x b run) o).1 b run;
+          each_call _ _ _ _ (c.serve_write.ensures.does (versions_in_range x b run) o).1 b run;
     }
