@@ -1,10 +1,9 @@
 -- What is written is read back.
-use Rattle.std.proofs.Common.{◌≡◌, ℕ, ◌+◌, ◌<◌, true, false, cond, ◌&&◌, eqb, leb, List, [], ◌∷◌, ◌++◌, length, Some, None, decimal, refl, ap, ◌∙◌, ap₂, arith, rules}
+use Rattle.std.proofs.Common.{◌≡◌, ℕ, ◌<◌, true, false, cond, ◌&&◌, eqb, leb, List, [], ◌∷◌, ◌++◌, length, Some, None, decimal, refl, ap, ◌∙◌, ap₂, arith, rules}
 use Rattle.std.proofs.lemmas.Fmt.{digits_decimal, digits_value-decimal, decimal_nonempty}
 use Rattle.std.proofs.lemmas.Str.Parse.{IsNumeralModel, numerals_by_fold}
 use Rattle.std.proofs.lemmas.Bool.{and_parts, le-leb, ne_eqb}
 use Rattle.std.proofs.lemmas.Bool.Decides.{nat_tests}
-use Rattle.board.specs.declared.command.Command.{Command}
 use Rattle.board.specs.declared.command.Command.TheVariants.{Mount, Save, Get, Checkpoint, Cycle}
 use Rattle.board.specs.Lines.{lines_of, fields_of, before_first, is_digit, all_digits, value, number_of, followed, all_numbers, numbers_of, command_with}
 use Rattle.board.specs.Laws.{Small, Unfed, CommandsReadBack, LinesReadBack}
