@@ -1,3 +1,5 @@
+ghost use Rattle.std.specs.Prelude.{◌≡◌};
+
 // What a RAM frame holds.
 #[derive(Clone, Copy, PartialEq, Eq, Debug)]
 pub struct Card {
@@ -18,6 +20,20 @@ pub struct Hold {
     pub number: u32,
     pub version: u32,
     pub evicted: Option<u16>,
+}
+
+// Number 0 is never given.
+impl Drop for Hold {
+    fn drop(self)
+        requires { self.number ≡ 0 }
+    {
+        let Hold {
+            frame: _,
+            number: _,
+            version: _,
+            evicted: _,
+        } = self;
+    }
 }
 
 // What a take grants: the frame, the hold's number, the version then, and the page that had to leave, if any.

@@ -11,7 +11,7 @@ use Rattle.rules.specs.Book.{Book}
 use Rattle.rules.specs.Promise.{Run}
 use Rattle.rules.specs.Store.{Store, step, mount, take_page, read, write, give_back, checkpoint, power_cycle}
 use Rattle.rules.specs.Store.{mounted, took, gave, wrote, given, saved, cycled}
-use Rattle.store.specs.View.{answered, as_hold, view, InOrder}
+use Rattle.store.specs.View.{answered, as_hold, view, InOrder, InRun}
 use Rattle.store.specs.declared.store.Store.{Store as CodeStore}
 use Rattle.board.specs.declared.command.Command.{Command}
 use Rattle.board.specs.declared.command.Command.TheVariants as command
@@ -61,10 +61,6 @@ Gets p o x z r =
     × Gives (step y (read h.frame h.number 240)) (answered (gave body) v) w
     × GivenBack h w z
     × (r ≡ replied letter.Get (got o body) v))
-
--- Of a store behind which a run lies.
-abbrev pub InRun : Store → Type 0 → Type 0
-InRun x says = (b : Book) → Run x b → says
 
 abbrev pub Replies : Command → Store → Store → Reply → Type 0
 Replies (command.Mount frames) x z r =

@@ -1,7 +1,8 @@
 ghost use Rattle.std.specs.Prelude.{◌≡◌};
 ghost use Rattle.board.specs.declared.reply.Reply.TheVariants as reply;
 ghost use Rattle.board.specs.Lines.{command_of};
-ghost use Rattle.session.specs.Replies.{Replies, RepliesTo, InRun, Saves, Gets, Answers, Goes, got};
+ghost use Rattle.store.specs.View.{InRun};
+ghost use Rattle.session.specs.Replies.{Replies, RepliesTo, Saves, Gets, Answers, Goes, got};
 
 use board::command::{Command, Letter, parse};
 use board::reply::Reply;

@@ -6,7 +6,8 @@ use Rattle.rules.specs.declared.fault.Fault.{Fault}
 use Rattle.rules.specs.declared.state.State.TheVariants as state
 use Rattle.rules.specs.declared.table.Grant.{Grant}
 use Rattle.rules.specs.declared.table.Hold.{Hold as RulesHold}
-use Rattle.rules.specs.Promise.{Promise}
+use Rattle.rules.specs.Book.{Book}
+use Rattle.rules.specs.Promise.{Promise, Run}
 use Rattle.rules.specs.Queue.{Queue as RulesQueue}
 use Rattle.rules.specs.Ram.{Ram, fresh, card_at}
 use Rattle.rules.specs.Store.{Store as RulesStore, Call, Answer, step, mount_shut, took}
@@ -41,6 +42,10 @@ granted h = took (as_hold h.grant)
 -- In service no version in RAM is above the highest. Every run keeps it so.
 abbrev pub InRange : {F D : Type 0} → Store F D → Type 0
 InRange s = s.state ≡ state.Up → (f : ℕ) → (card_at (ram_of s.frames) f).version ≤ 4000000000
+
+-- Of a store behind which a run lies.
+abbrev pub InRun : RulesStore → Type 0 → Type 0
+InRun x says = (b : Book) → Run x b → says
 
 -- All but the queue is as it was.
 pub record Beside {F D : Type 0} (s t : Store F D) : Type 0 where

@@ -7,6 +7,15 @@ pub struct Hold {
     pub(crate) grant: Grant,
 }
 
+// Number 0 is never given.
+impl Drop for Hold {
+    fn drop(self)
+        requires { self.grant.number ≡ 0 }
+    {
+        let Hold { grant: _ } = self;
+    }
+}
+
 impl Hold {
     pub(crate) fn spend(self) -> Grant
         ensures { result ≡ self.grant }

@@ -1,7 +1,9 @@
 #![tactic(auto)]
 
 // How a program uses a store: over any two media, and with every hold given back on every way.
-ghost use Rattle.store.specs.View.{InOrder};
+ghost use Rattle.std.specs.Prelude.{length};
+ghost use Rattle.store.specs.View.{InOrder, InRun, view};
+ghost use Rattle.store_use.specs.Visits.{Puts, Looks, Copies, CopiesInto};
 
 use medium::Medium;
 use rules::fault::Fault;
@@ -15,7 +17,10 @@ pub fn put<F: Medium, D: Medium>(
     offset: usize,
     bytes: &[u8],
 ) -> Result<u32, Fault>
-    ensures { InOrder F.Medium D.Medium store.old → InOrder F.Medium D.Medium store.new }
+    ensures keeps { InOrder F.Medium D.Medium store.old → InOrder F.Medium D.Medium store.new }
+    ensures does { InOrder F.Medium D.Medium store.old
+        → InRun (view F.Medium D.Medium store.old)
+        (Puts page offset bytes.now (view F.Medium D.Medium store.old) (view F.Medium D.Medium store.new) result) }
 {
     let hold = store.take(page)?;
     let version = store.write(&hold, offset, bytes);
@@ -29,7 +34,10 @@ pub fn look<F: Medium, D: Medium>(
     page: u32,
     into: &mut [u8],
 ) -> Result<u32, Fault>
-    ensures { InOrder F.Medium D.Medium store.old → InOrder F.Medium D.Medium store.new }
+    ensures keeps { InOrder F.Medium D.Medium store.old → InOrder F.Medium D.Medium store.new }
+    ensures does { InOrder F.Medium D.Medium store.old
+        → InRun (view F.Medium D.Medium store.old)
+        (Looks page (length into.old) into.new (view F.Medium D.Medium store.old) (view F.Medium D.Medium store.new) result) }
 {
     let hold = store.take(page)?;
     let version = store.read(&hold, into);
@@ -39,7 +47,10 @@ pub fn look<F: Medium, D: Medium>(
 
 // Puts a body that another page has into a page, with both held, and answers the new version.
 pub fn copy<F: Medium, D: Medium>(store: &mut Store<F, D>, from: u32, to: u32) -> Result<u32, Fault>
-    ensures { InOrder F.Medium D.Medium store.old → InOrder F.Medium D.Medium store.new }
+    ensures keeps { InOrder F.Medium D.Medium store.old → InOrder F.Medium D.Medium store.new }
+    ensures does { InOrder F.Medium D.Medium store.old
+        → InRun (view F.Medium D.Medium store.old)
+        (Copies from to (view F.Medium D.Medium store.old) (view F.Medium D.Medium store.new) result) }
 {
     let source = store.take(from)?;
     let version = copy_into(store, &source, to);
@@ -52,7 +63,10 @@ fn copy_into<F: Medium, D: Medium>(
     source: &Hold,
     to: u32,
 ) -> Result<u32, Fault>
-    ensures { InOrder F.Medium D.Medium store.old → InOrder F.Medium D.Medium store.new }
+    ensures keeps { InOrder F.Medium D.Medium store.old → InOrder F.Medium D.Medium store.new }
+    ensures does { InOrder F.Medium D.Medium store.old
+        → InRun (view F.Medium D.Medium store.old)
+        (CopiesInto to source.now.grant (view F.Medium D.Medium store.old) (view F.Medium D.Medium store.new) result) }
 {
     let mut body = [0u8; 240];
     store.read(source, &mut body)?;

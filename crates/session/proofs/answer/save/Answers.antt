@@ -1,11 +1,9 @@
 use Rattle.std.proofs.Common.{Ok, Err, refl, inr}
-use Rattle.rules.specs.Promise.{next}
-use Rattle.rules.specs.Store.{take_page}
-use Rattle.rules.proofs.InRange.{versions_in_range}
+use Rattle.rules.proofs.InRange.{still_in_range}
 use Rattle.store.specs.View.{view}
 use Rattle.session.proofs.answer.save.Goals as goal
 
--- A take that a run lies behind goes on with it, so that the version is in range when it is written.
+-- After the take the version is in range, when it is written.
 pub returns-in-Ok-written-clause-does : goal.returns-in-Ok-written-clause-does
 returns-in-Ok-written-clause-does g c = λ o.
     let see = view g.F.Medium g.D.Medium in
@@ -14,8 +12,7 @@ returns-in-Ok-written-clause-does g c = λ o.
     let (kept, back) = c.give_back.ensures.does (c.write-written.ensures.keeps held) in (
       kept,
       λ b run.
-          let (ws, ends, holds) = c.in-Ok.ensures.stands o b run in
-          let low = versions_in_range y _ (next run (take_page c.args.page) _ ws ends) in
+          let low = still_in_range (see c.args.store.now) y _ _ (c.in-Ok.ensures.stands o) b run in
           inr (
             c.in-Ok.hold.grant,
             y,
@@ -36,8 +33,7 @@ returns-in-Err-written-clause-does g c = λ o.
     let (kept, back) = c.give_back.ensures.does (c.write-written.ensures.keeps held) in (
       kept,
       λ b run.
-          let (ws, ends, holds) = c.in-Ok.ensures.stands o b run in
-          let low = versions_in_range y _ (next run (take_page c.args.page) _ ws ends) in
+          let low = still_in_range (see c.args.store.now) y _ _ (c.in-Ok.ensures.stands o) b run in
           inr (
             c.in-Ok.hold.grant,
             y,
