@@ -14,12 +14,12 @@ pub struct Card {
 }
 
 // A page taken: its frame, the hold's number, the version at the take, and the page that had to leave, if any.
-// Nobody may let a hold go: it is spent by giving it back.
+// Nobody may let a hold go: it is spent by giving it back. So its fields are the crate's own.
 pub struct Hold {
-    pub frame: u8,
-    pub number: u32,
-    pub version: u32,
-    pub evicted: Option<u16>,
+    pub(crate) frame: u8,
+    pub(crate) number: u32,
+    pub(crate) version: u32,
+    pub(crate) evicted: Option<u16>,
 }
 
 // Number 0 is never given.
