@@ -109,18 +109,20 @@ fn table(records: [Record; 3]) -> [Card; 3] {
 // The first so many records have it there.
 fn is_highest<R: Ranked>(
     rt: &impl Abort,
+    row: usize,
     records: &[R],
     count: usize,
     page: u16,
     found: Option<usize>,
 ) -> Result<(), Fail> {
     assert!(rt; count <= records.len());
-    assert_eq!(rt; highest(&records[0..count], page), found);
+    assert_eq!(rt; highest(&records[0..count], page), found, "row {row}");
     Ok(())
 }
 
 fn is_valid(
     rt: &impl Abort,
+    row: usize,
     entries: &[Option<Trailer>; 3],
     count: usize,
     page: u16,
@@ -129,40 +131,41 @@ fn is_valid(
     assert!(rt; count <= 3);
     let valid = valid_entry(&entries[0..count], page);
     let Some(place) = found else {
-        assert_eq!(rt; valid, None);
+        assert_eq!(rt; valid, None, "row {row}");
         return Ok(());
     };
     assert!(rt; place < 3);
-    assert_eq!(rt; valid, entries[place]);
+    assert_eq!(rt; valid, entries[place], "row {row}");
     Ok(())
 }
 
 fn is_frame(
     rt: &impl Abort,
+    row: usize,
     cards: &[Card; 3],
     count: usize,
     page: u16,
     found: Option<usize>,
 ) -> Result<(), Fail> {
     assert!(rt; count <= 3);
-    assert_eq!(rt; frame_of(&cards[0..count], page), found);
+    assert_eq!(rt; frame_of(&cards[0..count], page), found, "row {row}");
     Ok(())
 }
 
-fn finds(rt: &impl Abort, row: &Row) -> Result<(), Fail> {
+fn finds(rt: &impl Abort, i: usize, row: &Row) -> Result<(), Fail> {
     let (first, second, third, count, page, found) = *row;
     let records = [first, second, third];
     let entries = directory(records);
-    is_highest(rt, &entries, count, page, found)?;
-    is_valid(rt, &entries, count, page, found)?;
+    is_highest(rt, i, &entries, count, page, found)?;
+    is_valid(rt, i, &entries, count, page, found)?;
     let cards = table(records);
-    is_highest(rt, &cards, count, page, found)?;
-    is_frame(rt, &cards, count, page, found)
+    is_highest(rt, i, &cards, count, page, found)?;
+    is_frame(rt, i, &cards, count, page, found)
 }
 
 fn all_found(rt: &impl Abort, rows: &[Row]) -> Result<(), Fail> {
     for (i, row) in rows.iter().enumerate() {
-        finds(rt, row)?;
+        finds(rt, i, row)?;
     }
     Ok(())
 }

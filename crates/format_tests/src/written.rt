@@ -62,21 +62,31 @@ static WRITTEN: [(Fields, [u8; 16], bool); 8] = [
 ];
 
 // A page is written over whatever stood there, and read back if it is proper.
-fn writes(rt: &impl Abort, fields: Fields, last: [u8; 16], proper: bool) -> Result<(), Fail> {
+fn writes(
+    rt: &impl Abort,
+    row: usize,
+    fields: Fields,
+    last: [u8; 16],
+    proper: bool,
+) -> Result<(), Fail> {
     let written = trailer(fields);
     let mut into = [5u8; 256];
-    assert_eq!(rt; write_page(&mut into, &body(), &written), Ok(()));
-    assert!(rt; into == page(last));
-    assert!(rt; is_like(&into, &written));
+    assert_eq!(rt;
+        write_page(&mut into, &body(), &written),
+        Ok(()),
+        "row {row}"
+    );
+    assert!(rt; into == page(last), "row {row}");
+    assert!(rt; is_like(&into, &written), "row {row}");
     let expected = if proper { Some(written) } else { None };
-    assert_eq!(rt; read_trailer(&into, 65535), expected);
+    assert_eq!(rt; read_trailer(&into, 65535), expected, "row {row}");
     Ok(())
 }
 
 #[test]
 fn written_trailers(rt: HostRuntime) -> Result<(), Fail> {
     for (i, (fields, last, proper)) in WRITTEN.iter().enumerate() {
-        writes(&rt, *fields, *last, *proper)?;
+        writes(&rt, i, *fields, *last, *proper)?;
     }
     Ok(())
 }

@@ -43,6 +43,7 @@ pub enum Step {
 // A read answers so, and fills a buffer of fives or leaves it.
 fn reads<M: Medium>(
     rt: &impl Abort,
+    step: usize,
     medium: &mut M,
     len: usize,
     page: u16,
@@ -56,13 +57,14 @@ fn reads<M: Medium>(
         Ok(first) => (DONE, holds(into, 0, &rising(first))),
         Err(cause) => (Err(cause), all(into, 5)),
     };
-    assert_eq!(rt; answer, expected);
-    assert!(rt; filled);
+    assert_eq!(rt; answer, expected, "step {step}");
+    assert!(rt; filled, "step {step}");
     Ok(())
 }
 
 fn writes<M: Medium>(
     rt: &impl Abort,
+    step: usize,
     medium: &mut M,
     len: usize,
     page: u16,
@@ -72,20 +74,22 @@ fn writes<M: Medium>(
     let mut buffer = [0u8; 300];
     lay(&mut buffer, 0, &rising(first));
     assert!(rt; len <= 300);
-    assert_eq!(rt; medium.write(page, &buffer[0..len]), answer);
+    assert_eq!(rt; medium.write(page, &buffer[0..len]), answer, "step {step}");
     Ok(())
 }
 
-fn follow<M: Medium>(rt: &impl Abort, medium: &mut M, step: Step) -> Result<(), Fail> {
+fn follow<M: Medium>(rt: &impl Abort, i: usize, medium: &mut M, step: Step) -> Result<(), Fail> {
     match step {
         Step::Size(size) => {
-            assert_eq!(rt; medium.size(), size);
+            assert_eq!(rt; medium.size(), size, "step {i}");
             Ok(())
         },
-        Step::Read(page, shown) => reads(rt, medium, 256, page, shown),
-        Step::Write(page, first, answer) => writes(rt, medium, 256, page, first, answer),
-        Step::ReadInto(len, page, shown) => reads(rt, medium, len, page, shown),
-        Step::WriteFrom(len, page, first, answer) => writes(rt, medium, len, page, first, answer),
+        Step::Read(page, shown) => reads(rt, i, medium, 256, page, shown),
+        Step::Write(page, first, answer) => writes(rt, i, medium, 256, page, first, answer),
+        Step::ReadInto(len, page, shown) => reads(rt, i, medium, len, page, shown),
+        Step::WriteFrom(len, page, first, answer) => writes(
+            rt, i, medium, len, page, first, answer,
+        ),
         Step::Relight(charge) => {
             medium.relight(charge);
             Ok(())
@@ -95,7 +99,7 @@ fn follow<M: Medium>(rt: &impl Abort, medium: &mut M, step: Step) -> Result<(), 
 
 pub fn play<M: Medium>(rt: &impl Abort, medium: &mut M, script: &[Step]) -> Result<(), Fail> {
     for (i, step) in script.iter().enumerate() {
-        follow(rt, medium, *step)?;
+        follow(rt, i, medium, *step)?;
     }
     Ok(())
 }

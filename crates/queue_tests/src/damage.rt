@@ -187,7 +187,7 @@ fn damaged(rt: &impl Abort, steps: u8, row: Row) -> Result<(), Fail> {
 
 #[test]
 fn after_20(rt: HostRuntime) -> Result<(), Fail> {
-    for (i, row) in AFTER_20.iter().enumerate() {
+    for row in &AFTER_20 {
         damaged(&rt, 20, *row)?;
     }
     Ok(())
@@ -195,7 +195,7 @@ fn after_20(rt: HostRuntime) -> Result<(), Fail> {
 
 #[test]
 fn after_50(rt: HostRuntime) -> Result<(), Fail> {
-    for (i, row) in AFTER_50.iter().enumerate() {
+    for row in &AFTER_50 {
         damaged(&rt, 50, *row)?;
     }
     Ok(())
