@@ -1,3 +1,6 @@
+// The highest sequence number, version and hold number.
+pub const MOST: u32 = 4_000_000_000;
+
 // What the last sixteen bytes of a frame or a disk page say.
 #[derive(Clone, Copy, PartialEq, Eq, Debug)]
 pub struct Trailer {
