@@ -11,7 +11,7 @@ use Rattle.rules.specs.declared.state.Mounted.{Mounted}
 use Rattle.rules.specs.declared.state.State.{State}
 use Rattle.rules.specs.declared.state.State.TheVariants as state
 use Rattle.rules.specs.declared.table.Card.{Card}
-use Rattle.rules.specs.declared.table.Hold.{Hold}
+use Rattle.rules.specs.declared.table.Grant.{Grant}
 use Rattle.rules.specs.declared.trailer.Trailer.{Trailer}
 use Rattle.rules.specs.Steps.{then_do, within}
 use Rattle.rules.specs.Format.{proper, most}
@@ -41,7 +41,7 @@ pub data Call : Type 0 where
 -- What each call answers: what mount found, the hold, a body and its version, the new version, how many were saved.
 pub data Answer : Type 0 where
   mounted : Mounted → Answer
-  took : Hold → Answer
+  took : Grant → Answer
   gave : Bytes → ℕ → Answer
   wrote : ℕ → Answer
   given : Answer

@@ -1,7 +1,8 @@
-ghost use Rattle.std.specs.Prelude.{◌≡◌};
+ghost use Rattle.std.specs.Prelude.{◌≡◌, Some};
 ghost use Rattle.rules.specs.Refusals.{number_of, word_of, has_place, plain, touched, of_cause};
 
 use medium::Cause;
+use std::fmt;
 
 // The two media of a store.
 #[derive(Clone, Copy, PartialEq, Eq, Debug)]
@@ -17,31 +18,31 @@ pub struct Place {
     pub page: u16,
 }
 
-// Why a call is refused.
+// Why a call is refused, each with its number.
 #[derive(Clone, Copy, PartialEq, Eq, Debug)]
 pub enum Refusal {
     // the store is dark, or a medium answered dark
-    Dark,
+    Dark = 1,
     // the store is not mounted
-    Shut,
+    Shut = 2,
     // the store is mounted already
-    Up,
+    Up = 3,
     // the frames or the media have not the sizes of a store
-    Size,
+    Size = 4,
     // there is no page of that number
-    NoPage,
+    NoPage = 5,
     // the page is held
-    Held,
+    Held = 6,
     // the page is not in RAM, and every frame is held
-    AllHeld,
+    AllHeld = 7,
     // hold number, sequence number or version is used up
-    Spent,
+    Spent = 8,
     // a page is not as this store leaves pages
-    Foreign,
+    Foreign = 9,
     // the frame has not that hold
-    Stale,
+    Stale = 10,
     // the bytes do not fit a body
-    Length,
+    Length = 11,
 }
 
 // A refusal, and the page at which it was met, if one was touched.
@@ -55,19 +56,7 @@ impl Refusal {
     pub fn number(self) -> u8
         ensures { result ≡ number_of self }
     {
-        match self {
-            Refusal::Dark => 1,
-            Refusal::Shut => 2,
-            Refusal::Up => 3,
-            Refusal::Size => 4,
-            Refusal::NoPage => 5,
-            Refusal::Held => 6,
-            Refusal::AllHeld => 7,
-            Refusal::Spent => 8,
-            Refusal::Foreign => 9,
-            Refusal::Stale => 10,
-            Refusal::Length => 11,
-        }
+        self as u8
     }
 
     pub fn word(self) -> &'static str
@@ -92,18 +81,15 @@ impl Refusal {
     pub fn has_place(self) -> bool
         ensures { result ≡ has_place self }
     {
-        match self {
-            Refusal::Dark | Refusal::Foreign => true,
-            Refusal::Shut
-            | Refusal::Up
-            | Refusal::Size
-            | Refusal::NoPage
-            | Refusal::Held
-            | Refusal::AllHeld
-            | Refusal::Spent
-            | Refusal::Stale
-            | Refusal::Length => false,
-        }
+        matches!(self, Refusal::Dark | Refusal::Foreign)
+    }
+}
+
+impl fmt::Display for Refusal {
+    ghost output = { λ r. Some (word_of r) };
+
+    fn fmt<W: fmt::Write>(&self, f: &mut fmt::Formatter<W>) -> fmt::Result {
+        f.write_str(self.word())
     }
 }
 

@@ -2,7 +2,7 @@
 pub const MOST: u32 = 4_000_000_000;
 
 // What the last sixteen bytes of a frame or a disk page say.
-#[derive(Clone, Copy, PartialEq, Eq, Debug)]
+#[derive(Clone, Copy, PartialEq, Eq, Debug, Default)]
 pub struct Trailer {
     // the sequence number under which the page was enqueued
     pub q: u32,

@@ -11,7 +11,7 @@ use Rattle.rules.specs.Book.{Book}
 use Rattle.rules.specs.Promise.{Run}
 use Rattle.rules.specs.Store.{Store, step, mount, take_page, read, write, give_back, checkpoint, power_cycle}
 use Rattle.rules.specs.Store.{mounted, took, gave, wrote, given, saved, cycled}
-use Rattle.store.specs.View.{answered, as_hold, view, InOrder, InRun}
+use Rattle.store.specs.View.{answered, view, InOrder, InRun}
 use Rattle.store.specs.declared.store.Store.{Store as CodeStore}
 use Rattle.board.specs.declared.command.Command.{Command}
 use Rattle.board.specs.declared.command.Command.TheVariants as command
@@ -35,7 +35,7 @@ abbrev pub RefusedTake : Letter → ℕ → Store → Store → Reply → Type 0
 RefusedTake l p x z r = (e : Fault) × Gives (step x (take_page p)) (Err e) z × (r ≡ reply.Refused l e.cause)
 
 abbrev pub Taken : ℕ → Store → Store → Grant → Type 0
-Taken p x y h = Gives (step x (take_page p)) (Ok (took (as_hold h))) y
+Taken p x y h = Gives (step x (take_page p)) (Ok (took h)) y
 
 -- It is given back, whatever the answer.
 abbrev pub GivenBack : Grant → Store → Store → Type 0

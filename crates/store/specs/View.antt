@@ -4,8 +4,6 @@ use Rattle.medium.specs.declared.Medium.{Ghosts}
 use Rattle.medium.specs.Outcome.{Outcome, Gives}
 use Rattle.rules.specs.declared.fault.Fault.{Fault}
 use Rattle.rules.specs.declared.state.State.TheVariants as state
-use Rattle.rules.specs.declared.table.Grant.{Grant}
-use Rattle.rules.specs.declared.table.Hold.{Hold as RulesHold}
 use Rattle.rules.specs.Book.{Book}
 use Rattle.rules.specs.Promise.{Promise, Run}
 use Rattle.rules.specs.Queue.{Queue as RulesQueue}
@@ -32,12 +30,9 @@ answered say (Err e) = Err e
 abbrev pub first : RulesQueue → RulesStore
 first y = record { state = state.Shut; ram = fresh 0; queue = y; holds = 0 }
 
--- What a take grants, as the rules have it.
-abbrev pub as_hold : Grant → RulesHold
-as_hold g = record { frame = g.frame; number = g.number; version = g.version; evicted = g.evicted }
-
+-- What a take grants.
 abbrev pub granted : Hold → Answer
-granted h = took (as_hold h.grant)
+granted h = took h.grant
 
 -- In service no version in RAM is above the highest. Every run keeps it so.
 abbrev pub InRange : {F D : Type 0} → Store F D → Type 0

@@ -5,7 +5,7 @@ use Rattle.medium.specs.Outcome.{Gives}
 use Rattle.rules.specs.declared.fault.Fault.{Fault}
 use Rattle.rules.specs.declared.table.Grant.{Grant}
 use Rattle.rules.specs.Store.{Store, step, take_page, read, write, give_back, took, gave, wrote, given}
-use Rattle.store.specs.View.{answered, as_hold}
+use Rattle.store.specs.View.{answered}
 
 -- What a visit answers: a refusal of the give back goes before what was answered in between.
 abbrev pub at_last : Result (Unit {0}) Fault → Result ℕ Fault → Result ℕ Fault
@@ -22,7 +22,7 @@ RefusedTake p x z r = (e : Fault) × Gives (step x (take_page p)) (Err e) z × (
 abbrev pub Visited : ℕ → Between → Store → Store → Result ℕ Fault → Type 0
 Visited p between x z r =
     (h : Grant) × (y w : Store) × (v : Result ℕ Fault) × (g : Result (Unit {0}) Fault)
-    × Gives (step x (take_page p)) (Ok (took (as_hold h))) y
+    × Gives (step x (take_page p)) (Ok (took h)) y
     × between h y w v
     × Gives (step w (give_back h.frame h.number)) (answered (λ u. given) g) z
     × (r ≡ at_last g v)
