@@ -4,7 +4,7 @@ ghost use Rattle.medium.specs.Rules.{readable, plainly, filled};
 ghost use Rattle.media.specs.Card.{card_count, card_page, tick as tick_at, content as content_at, Whole, Carried};
 ghost use Rattle.media.specs.Card.{next_tick, NextTick, put_at, put_sectors};
 
-use crate::lent::overwrite;
+use crate::bytes::overwrite;
 use medium::{Cause, PAGE};
 
 pub(crate) const STRIDE: usize = 272;

@@ -4,7 +4,7 @@ use Rattle.std.proofs.lemmas.List.Edits.{fill_by_more}
 use Rattle.std.proofs.lemmas.Bool.Decides.{not_from_Decides}
 use Rattle.medium.specs.Rules.{readable, plainly, filled}
 use Rattle.media.specs.Card.{content}
-use Rattle.media.proofs.Cards.{page_none, page_whole}
+use Rattle.media.specs.Laws.Cards.{page_none, page_whole}
 use Rattle.media.proofs.sectors.copy_out.Goals as goal
 
 pub returns-then-not-whole : goal.returns-then-not-whole

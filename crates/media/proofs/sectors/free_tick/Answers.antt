@@ -1,7 +1,7 @@
 use Rattle.std.proofs.Common.{◌≡◌, ℕ, sym, refl, subst, ⊎_elim, arith}
 use Rattle.std.proofs.lemmas.Bool.{cases_eq}
 use Rattle.media.specs.Card.{Carried}
-use Rattle.media.proofs.Ticks.{not_all_carried}
+use Rattle.media.specs.Laws.Ticks.{not_all_carried}
 use Rattle.media.proofs.sectors.free_tick.Goals as goal
 use Rattle.media.proofs.sectors.free_tick.Goals.{else-loop-mark-test, then-loop-mark-test+else-not-carried+else-mark-lt255}
 

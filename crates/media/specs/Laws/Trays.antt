@@ -3,10 +3,10 @@ use Rattle.std.proofs.Common.{◌≡◌, ℕ, ◌+◌, ◌*◌, ◌/◌, ◌<◌
 use Rattle.std.proofs.lemmas.List.{same_lists, set-get_or, get_or-set_same, get_or-set_other, get_or-take, get_or-drop}
 use Rattle.std.proofs.lemmas.Bool.{cases_lt}
 use Rattle.medium.specs.Meaning.{Bytes, Page, Left, old, new, torn, leaves}
-use Rattle.media.specs.Lent.{pages, over}
+use Rattle.media.specs.Lent.{Shows, pages, over}
 use Rattle.media.specs.Tray.{tray_count, tray_page, tray_put, tray_torn, tray_cut, tray_coding}
-use Rattle.media.proofs.Lending.{Shows, pages_set, getD_pages}
-use Rattle.media.proofs.Overwrites.{length_over, over_inside, over_below, over_above}
+use Rattle.media.specs.Laws.Pages.{pages_set, getD_pages}
+use Rattle.media.specs.Laws.Overwrites.{length_over, over_inside, over_below, over_above}
 
 -- A page is its 257 bytes.
 page_same : (xs ys : Bytes) (i : ℕ) → length ys ≡ length xs

@@ -4,13 +4,13 @@ use Rattle.std.specs.List.{range_with_len}
 use Rattle.std.proofs.lemmas.List.FromFn.{fill_by_all}
 use Rattle.std.proofs.lemmas.Bool.{cases_eq, cases_lt, cases_Bool}
 use Rattle.medium.specs.Meaning.{Bytes, Left, old, new, torn, leaves}
-use Rattle.media.specs.Lent.{pages}
+use Rattle.media.specs.Lent.{Shows, pages}
 use Rattle.media.specs.Card.{card_count, tick, content, level, Whole, whole, card_page}
 use Rattle.media.specs.Card.{next_tick, NextTick, put_sectors, card_put, card_cut, card_coding}
-use Rattle.media.proofs.Counted.{counted_same}
-use Rattle.media.proofs.Lending.{Shows, pages_set}
-use Rattle.media.proofs.Putting.{SectorsPut, sectors_put}
-use Rattle.media.proofs.Ticks.{whole_decides, next_tick_is}
+use Rattle.media.specs.Laws.Counted.{counted_same}
+use Rattle.media.specs.Laws.Pages.{pages_set}
+use Rattle.media.specs.Laws.Putting.{SectorsPut, sectors_put}
+use Rattle.media.specs.Laws.Ticks.{whole_decides, next_tick_is}
 
 level_same : (xs ys : Bytes) (i t n : ℕ) → ((s : ℕ) → s < n → tick ys i s ≡ tick xs i s)
     → level ys i t n ≡ level xs i t n

@@ -4,7 +4,7 @@ use Rattle.std.proofs.lemmas.Bool.{cases_eq, cases_lt}
 use Rattle.std.proofs.lemmas.Bool.Decides.{Decides-below_and, Decides-below_or, Decides-eqb, Decides-and, Decides-not, not_from_Decides}
 use Rattle.medium.specs.Meaning.{Bytes}
 use Rattle.media.specs.Card.{tick, level, Whole, whole, Carried, carries, free_from, next_tick, NextTick}
-use Rattle.media.proofs.Pigeons.{at_most}
+use Rattle.media.specs.Laws.Pigeons.{at_most}
 
 module _ (bs : Bytes) (i : ℕ) where
   level_decides : (t n : ℕ) → Decides (level bs i t n) ((k : ℕ) → k < n → tick bs i k ≡ t)

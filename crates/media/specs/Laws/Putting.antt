@@ -5,7 +5,7 @@ use Rattle.std.proofs.lemmas.Bool.{cases_eq}
 use Rattle.medium.specs.Meaning.{Bytes}
 use Rattle.media.specs.Lent.{over}
 use Rattle.media.specs.Card.{card_count, tick, put_at, put_sectors}
-use Rattle.media.proofs.Overwrites.{length_over, over_inside, over_below, over_above}
+use Rattle.media.specs.Laws.Overwrites.{length_over, over_inside, over_below, over_above}
 
 -- One sector.
 module _ (bs part : Bytes) (a t : ℕ) (within : a + 17 ≤ length bs) (len : length part ≡ 16) where

@@ -1,6 +1,6 @@
 use Rattle.std.proofs.Common.{◌+◌, ◌++◌, length, take, ap, arith}
 use borrow.Rule.Slice.PartMut.{Post-is}
-use Rattle.media.proofs.lent.overwrite.Goals as goal
+use Rattle.media.proofs.bytes.overwrite.Goals as goal
 
 pub returns : goal.returns
 returns c =
