@@ -15,20 +15,20 @@ returns-then-not-whole c =
       buffer = sym (ap (λ p. filled c.args.into.now (readable p)) e);
     }
 
-pub loop-i-preserved : goal.loop-i-preserved
-loop-i-preserved c =
-    let lt : c.loop-i.i < length c.loop-i.into = omega arith in
+pub loop-at-preserved : goal.loop-at-preserved
+loop-at-preserved c =
+    let lt : c.loop-at.at < length c.loop-at.into = omega arith in
     rw c.content.ensures
-    (fill_by_more (content c.args.bytes.now c.args.page) c.loop-i.into c.loop-i.i 0 lt
-    c.loop-i.invariant)
+    (fill_by_more (content c.args.bytes.now c.args.page) c.loop-at.into c.loop-at.at 0 lt
+    c.loop-at.invariant)
 
 pub returns : goal.returns
 returns c =
     let e = page_whole c.args.bytes.now c.args.page (c.if-not-whole.ensures.0 refl) in
-    let len : length c.loop-i.into ≡ 256 = omega arith in
+    let len : length c.loop-at.into ≡ 256 = omega arith in
     let all =
-    fill_by_all (content c.args.bytes.now c.args.page) c.loop-i.into 256 0 len
-    (λ k h. let l : k < c.loop-i.i = omega arith in c.loop-i.invariant k l) in
+    fill_by_all (content c.args.bytes.now c.args.page) c.loop-at.into 256 0 len
+    (λ k h. let l : k < c.loop-at.at = omega arith in c.loop-at.invariant k l) in
     record {
       answer = sym (ap (λ p. plainly (readable p)) e);
       buffer = all ∙ sym (ap (λ p. filled c.args.into.now (readable p)) e);
