@@ -1,6 +1,5 @@
 use Rattle.std.proofs.Common.{◌≡◌, ◌<◌, length, sym, refl, ap, ◌∙◌, arith}
 use Rattle.std.proofs.lemmas.List.FromFn.{fill_by_all}
-use Rattle.std.proofs.lemmas.List.Edits.{fill_by_more}
 use Rattle.std.proofs.lemmas.Bool.Decides.{not_from_Decides}
 use Rattle.medium.specs.Rules.{readable, plainly, filled}
 use Rattle.media.specs.Card.{content}
@@ -14,13 +13,6 @@ returns-then-not-whole c =
       answer = sym (ap (λ p. plainly (readable p)) e);
       buffer = sym (ap (λ p. filled c.args.into.now (readable p)) e);
     }
-
-pub loop-at-preserved : goal.loop-at-preserved
-loop-at-preserved c =
-    let lt : c.loop-at.at < length c.loop-at.into = omega arith in
-    rw c.content.ensures
-    (fill_by_more (content c.args.bytes.now c.args.page) c.loop-at.into c.loop-at.at 0 lt
-    c.loop-at.invariant)
 
 pub returns : goal.returns
 returns c =
