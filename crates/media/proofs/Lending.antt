@@ -1,57 +1,30 @@
 -- A medium over lent bytes does what the rules of a medium say, if its coding shows what it writes.
-use Rattle.std.proofs.Common.{◌≡◌, ℕ, ◌-◌, ◌<◌, Bool, true, false, cond, eqb, [], map, length, get_or, set, Some, None, Option, Result, sym, refl, ap, ◌∙◌, subst, arith}
-use Rattle.std.specs.List.{range_with_len}
-use Rattle.std.proofs.lemmas.List.FromFn.{length-map-range_with_len, get_or-map-range_with_len}
+use Rattle.std.proofs.Common.{◌≡◌, ℕ, ◌-◌, ◌<◌, Bool, true, false, cond, eqb, [], length, Some, None, Option, Result, sym, refl, ap, ◌∙◌, subst}
 use Rattle.std.proofs.lemmas.Bool.{eqb-true}
 use Rattle.medium.specs.declared.Cause.{Cause}
 use Rattle.medium.specs.declared.Cause.TheVariants.{Dark}
-use Rattle.medium.specs.Meaning.{Bytes, Page, Left, Meaning, page, leaves, with_page}
+use Rattle.medium.specs.Meaning.{Bytes, Meaning, page, leaves, with_page}
 use Rattle.medium.specs.Outcome.{Gives, done, refused, struck}
 use Rattle.medium.specs.Rules.{refusal, refuses, reads, unless_refused, write, write_unless, written, struck_at}
 use Rattle.medium.proofs.Access.{passed}
-use Rattle.media.specs.Lent.{Lent, Coding, pages, means, refuses_lent, reads_lent, stored, cut_off, store_unless, store}
-use Rattle.media.proofs.Counted.{counted_set}
-
--- What a coding puts is the page then, what it cuts is one of the three that a strike may leave, and no other page
--- changes.
-pub record Shows (c : Coding) : Type 0 where
-  pub put_shows : (bs from : Bytes) (i : ℕ) → i < c.count bs → length from ≡ 256
-      → pages c (c.put bs i from) ≡ set (pages c bs) i (Some from)
-  pub cut_shows : (strike : ℕ) (bs from : Bytes) (i : ℕ) → i < c.count bs → length from ≡ 256
-      → (w : Left) × (pages c (c.cut strike bs i from) ≡ set (pages c bs) i (leaves w (c.decode bs i) from))
+use Rattle.media.specs.Lent.{Parts, Coding, Shows, means, refuses_lent, reads_lent, stored, cut_off, store_unless, store}
+use Rattle.media.specs.Laws.Pages.{length_pages, getD_pages}
 
 module _ (c : Coding) where
-  pub length_pages : (bs : Bytes) → length (pages c bs) ≡ c.count bs
-  unfolding pages
-  length_pages bs = length-map-range_with_len (c.decode bs) 0 (c.count bs)
+  refuses_is : (e : Parts) (i n : ℕ) → refuses (means c e) i n ≡ refuses_lent c e i n
+  refuses_is e i n = ap (λ k. refusal e.lit k i n) (length_pages c e.bytes)
 
-  pub getD_pages : (bs : Bytes) (i : ℕ) (d : Page) → i < c.count bs → get_or (pages c bs) i d ≡ c.decode bs i
-  unfolding pages
-  getD_pages bs i d h = get_or-map-range_with_len (c.decode bs) 0 (c.count bs) i i d h (omega arith)
-
-  -- bytes that differ in one page mean pages that differ there
-  pub pages_set : (xs ys : Bytes) (i : ℕ) (v : Page) → c.count ys ≡ c.count xs → i < c.count xs
-      → c.decode ys i ≡ v → ((k : ℕ) → k < c.count xs → (k ≡ i → ⊥) → c.decode ys k ≡ c.decode xs k)
-      → pages c ys ≡ set (pages c xs) i v
-  unfolding pages
-  pages_set xs ys i v long lt here there =
-      ap (λ n. map (c.decode ys) (range_with_len 0 n)) long
-      ∙ counted_set (c.decode xs) (c.decode ys) (c.count xs) i v lt here there
-
-  refuses_is : (e : Lent) (i n : ℕ) → refuses (means c e) i n ≡ refuses_lent c e i n
-  refuses_is e i n = ap (λ k. refusal e.lit k i n) (length_pages e.bytes)
-
-  reads_unless : (e : Lent) (i n : ℕ) (o : Option Cause) → refuses_lent c e i n ≡ o
+  reads_unless : (e : Parts) (i n : ℕ) (o : Option Cause) → refuses_lent c e i n ≡ o
       → unless_refused o (page (means c e) i) ≡ unless_refused o (c.decode e.bytes i)
   reads_unless e i n (Some x) h = refl
   reads_unless e i n None h =
-      ap (unless_refused None) (getD_pages e.bytes i None (passed e.lit (c.count e.bytes) i n h).inside)
+      ap (unless_refused None) (getD_pages c e.bytes i None (passed e.lit (c.count e.bytes) i n h).inside)
 
-  pub reads_is : (e : Lent) (i n : ℕ) → reads_lent c e i n ≡ reads (means c e) i n
+  pub reads_is : (e : Parts) (i n : ℕ) → reads_lent c e i n ≡ reads (means c e) i n
   reads_is e i n =
       sym (ap (λ o. unless_refused o (page (means c e) i)) (refuses_is e i n) ∙ reads_unless e i n _ refl)
 
-  module _ (shows : Shows c) (e : Lent) (i : ℕ) (bs : Bytes) (r : Result (Unit {0}) Cause) (f : Lent) where
+  module _ (shows : Shows c) (e : Parts) (i : ℕ) (bs : Bytes) (r : Result (Unit {0}) Cause) (f : Parts) where
     abbrev m : Meaning
     m = means c e
 
@@ -61,7 +34,7 @@ module _ (c : Coding) where
         → Gives (cond t (struck Dark (struck_at m i bs) (λ w. [])) (done tt (written m i bs) [])) r (means c f)
     charged lt len on true z g =
         let s = shows.cut_shows e.strike e.bytes bs i lt len in
-        let at : c.decode e.bytes i ≡ page m i = sym (getD_pages e.bytes i None lt) in (
+        let at : c.decode e.bytes i ≡ page m i = sym (getD_pages c e.bytes i None lt) in (
           g.0,
           (
             s.0,

@@ -1,11 +1,8 @@
 -- A card's bytes: 272 a page, 16 sectors of 16 content bytes and a tick.
-use Rattle.std.specs.Prelude.{◌≡◌, ℕ, zero, suc, ◌+◌, ◌*◌, ◌/◌, ◌%◌, ◌<◌, ◌≤◌, min, Bool, true, false, cond, not, ◌&&◌, ◌||◌, map, length, take, drop, Some, None, Result, ◌==◌, ◌≢◌, slice_index, slice_set}
+use Rattle.std.specs.Prelude.{◌≡◌, ℕ, zero, suc, ◌+◌, ◌*◌, ◌/◌, ◌%◌, ◌<◌, ◌≤◌, min, Bool, true, false, cond, not, ◌&&◌, ◌||◌, map, length, take, drop, Some, None, ◌==◌, ◌≢◌, slice_index, slice_set}
 use Rattle.std.specs.List.{range_with_len}
-use Rattle.medium.specs.declared.Cause.{Cause}
-use Rattle.medium.specs.Meaning.{Bytes, Page, Meaning}
-use Rattle.medium.specs.Outcome.{Outcome}
-use Rattle.media.specs.declared.card.Card.{Card}
-use Rattle.media.specs.Lent.{Lent, Coding, means, over, reads_lent, store}
+use Rattle.medium.specs.Meaning.{Bytes, Page}
+use Rattle.media.specs.Lent.{Coding, over}
 
 abbrev pub card_count : Bytes → ℕ
 card_count bs = min (length bs / 272) 65535
@@ -75,20 +72,3 @@ card_cut stop bs i from = put_sectors bs i (next_tick bs i) from (min stop 16)
 
 abbrev pub card_coding : Coding
 card_coding = record { count = card_count; decode = card_page; put = card_put; cut = card_cut }
-
-abbrev pub of_card : Card → Lent
-of_card c = record { bytes = c.bytes.now; strike = c.stop; charge = c.charge; lit = c.lit }
-
--- A read and a write of a card, to the byte.
-abbrev pub card_reads : Card → ℕ → ℕ → Result Bytes Cause
-card_reads c i n = reads_lent card_coding (of_card c) i n
-
-abbrev pub card_store : Card → ℕ → Bytes → Outcome Cause Lent (Unit {0})
-card_store c i bs = store card_coding (of_card c) i bs
-
-abbrev pub card_means : Card → Meaning
-card_means c = means card_coding (of_card c)
-
--- A card is always in order.
-abbrev pub card_inorder : Card → Type 0
-card_inorder c = Unit {0}

@@ -1,10 +1,7 @@
 -- A tray's bytes: 257 a page, the content and then a mark, 1 for whole.
-use Rattle.std.specs.Prelude.{ℕ, ◌+◌, ◌*◌, ◌/◌, min, cond, length, take, drop, Some, None, Result, ◌==◌, slice_index, slice_set}
-use Rattle.medium.specs.declared.Cause.{Cause}
-use Rattle.medium.specs.Meaning.{Bytes, Page, Meaning}
-use Rattle.medium.specs.Outcome.{Outcome}
-use Rattle.media.specs.declared.tray.Tray.{Tray}
-use Rattle.media.specs.Lent.{Lent, Coding, means, over, reads_lent, store}
+use Rattle.std.specs.Prelude.{ℕ, ◌+◌, ◌*◌, ◌/◌, min, cond, length, take, drop, Some, None, ◌==◌, slice_index, slice_set}
+use Rattle.medium.specs.Meaning.{Bytes, Page}
+use Rattle.media.specs.Lent.{Coding, over}
 
 abbrev pub tray_count : Bytes → ℕ
 tray_count bs = min (length bs / 257) 65535
@@ -26,20 +23,3 @@ tray_cut strike bs i from = cond (strike == 0) bs (cond (strike == 1) (tray_put 
 
 abbrev pub tray_coding : Coding
 tray_coding = record { count = tray_count; decode = tray_page; put = tray_put; cut = tray_cut }
-
-abbrev pub of_tray : Tray → Lent
-of_tray t = record { bytes = t.bytes.now; strike = t.strike; charge = t.charge; lit = t.lit }
-
--- A read and a write of a tray, to the byte.
-abbrev pub tray_reads : Tray → ℕ → ℕ → Result Bytes Cause
-tray_reads t i n = reads_lent tray_coding (of_tray t) i n
-
-abbrev pub tray_store : Tray → ℕ → Bytes → Outcome Cause Lent (Unit {0})
-tray_store t i bs = store tray_coding (of_tray t) i bs
-
-abbrev pub tray_means : Tray → Meaning
-tray_means t = means tray_coding (of_tray t)
-
--- A tray is always in order.
-abbrev pub tray_inorder : Tray → Type 0
-tray_inorder t = Unit {0}

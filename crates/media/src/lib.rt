@@ -1,6 +1,9 @@
 #![tactic(auto)]
 
+mod bytes;
 pub mod card;
-mod lent;
+mod lay;
+pub mod lent;
 mod sectors;
+pub mod strike;
 pub mod tray;

@@ -4,8 +4,8 @@ ghost use Rattle.medium.specs.Rules.{readable, plainly, filled};
 ghost use Rattle.media.specs.Card.{card_count, card_page, tick as tick_at, content as content_at, Whole, Carried};
 ghost use Rattle.media.specs.Card.{next_tick, NextTick, put_at, put_sectors};
 
-use crate::lent::overwrite;
-use medium::{Cause, PAGE};
+use crate::bytes::overwrite;
+use medium::Cause;
 
 pub(crate) const STRIDE: usize = 272;
 
@@ -20,7 +20,7 @@ fn tick(bytes: &[u8], page: u16, sector: usize) -> u8
     requires sector { sector < 16 }
     ensures { result ≡ tick_at bytes.now page sector }
 {
-    bytes[page as usize * STRIDE + sector * SECTOR + CONTENT]
+    bytes[usize::from(page) * STRIDE + sector * SECTOR + CONTENT]
 }
 
 // A byte of a page's content, by its number from 0 to 255.
@@ -29,7 +29,7 @@ fn content(bytes: &[u8], page: u16, at: usize) -> u8
     requires place { at < 256 }
     ensures { result ≡ content_at bytes.now page at }
 {
-    bytes[page as usize * STRIDE + at / CONTENT * SECTOR + at % CONTENT]
+    bytes[usize::from(page) * STRIDE + at / CONTENT * SECTOR + at % CONTENT]
 }
 
 // All sectors carry one tick, and it is not 0.
@@ -38,15 +38,7 @@ fn whole(bytes: &[u8], page: u16) -> bool
     ensures { Decides result (Whole bytes.now page) }
 {
     let first = tick(bytes, page, 0);
-    if first == 0 {
-        return false;
-    }
-    for sector in 0..SECTORS {
-        if tick(bytes, page, sector) != first {
-            return false;
-        }
-    }
-    true
+    first != 0 && (0..SECTORS).all(|sector| tick(bytes, page, sector) == first)
 }
 
 pub(crate) fn copy_out(bytes: &[u8], page: u16, into: &mut [u8]) -> Result<(), Cause>
@@ -59,8 +51,8 @@ pub(crate) fn copy_out(bytes: &[u8], page: u16, into: &mut [u8]) -> Result<(), C
     if !whole(bytes, page) {
         return Err(Cause::Unreadable);
     }
-    for i in 0..PAGE {
-        into[i] = content(bytes, page, i);
+    for (at, byte) in into.iter_mut().enumerate() {
+        *byte = content(bytes, page, at);
     }
     Ok(())
 }
@@ -70,25 +62,17 @@ fn carried(bytes: &[u8], page: u16, mark: u8) -> bool
     requires { page < card_count bytes.now }
     ensures { Decides result (Carried bytes.now page mark) }
 {
-    for sector in 0..SECTORS {
-        if tick(bytes, page, sector) == mark {
-            return true;
-        }
-    }
-    false
+    (0..SECTORS).any(|sector| tick(bytes, page, sector) == mark)
 }
 
-// The smallest tick that no sector of the page carries.
+// The smallest tick that no sector of the page carries: sixteen sectors leave one free.
 fn free_tick(bytes: &[u8], page: u16) -> u8
     requires { page < card_count bytes.now }
     ensures { NextTick bytes.now page result }
 {
-    for mark in 1..=255u8 {
-        if !carried(bytes, page, mark) {
-            return mark;
-        }
-    }
-    unreachable()
+    (1..u8::MAX)
+        .find(|mark| !carried(bytes, page, *mark))
+        .unwrap()
 }
 
 fn put_at(bytes: &mut [u8], at: usize, part: &[u8], mark: u8)
@@ -109,7 +93,12 @@ fn put_next(bytes: &mut [u8], page: u16, sector: usize, from: &[u8], mark: u8)
         → bytes.new ≡ put_sectors before page mark from.now (sector + 1) }
 {
     let part = &from[sector * CONTENT..sector * CONTENT + CONTENT];
-    put_at(bytes, page as usize * STRIDE + sector * SECTOR, part, mark);
+    put_at(
+        bytes,
+        usize::from(page) * STRIDE + sector * SECTOR,
+        part,
+        mark,
+    );
 }
 
 // Writes the first sectors of a page, with a tick that none of its sectors carried.

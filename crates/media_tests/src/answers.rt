@@ -1,9 +1,11 @@
 // What size, read and write answer at the edges of all that they are given, over bytes that are 0.
 use crate::script::Step::*;
-use crate::script::{BLACK, DARK, DONE, LENGTH, NOWHERE, OUTSIDE, SHORT, Step, TORN};
-use crate::stage::{Under, on_card, on_tray};
+use crate::script::{BLACK, DARK, DONE, LENGTH, NOWHERE, OUTSIDE, SHORT, Step, TORN, play};
+use layers::read_buffer::ReadBuffer;
+use media::card::Card;
+use media::strike::Strike;
+use media::tray::Tray;
 use std::process::Abort;
-use std::test::Fail;
 
 const NO_PAGE: [Step; 11] = [
     Size(0),
@@ -98,41 +100,38 @@ const NO_CHARGE: [Step; 21] = [
     Size(2),
 ];
 
+const TEAR: u8 = Strike::Torn as u8;
+
 // A script on so many zero bytes of a tray, with a read buffer over it too, and of a card.
-fn on_all(
-    rt: &impl Abort,
-    tray: usize,
-    card: usize,
-    charge: u32,
-    script: &[Step],
-) -> Result<(), Fail> {
+fn on_all(rt: &impl Abort, tray: usize, card: usize, charge: u32, script: &[Step]) {
     assert!(rt; tray <= 544 && card <= 544);
     let mut bytes = [0u8; 544];
-    on_tray(rt, &mut bytes[0..tray], 2, charge, Under::Nothing, script)?;
+    play(rt, &mut Tray::new(&mut bytes[..tray], TEAR, charge), script);
     let mut bytes = [0u8; 544];
-    on_tray(rt, &mut bytes[0..tray], 2, charge, Under::Buffer, script)?;
+    let below = Tray::new(&mut bytes[..tray], TEAR, charge);
+    play(rt, &mut ReadBuffer::new(below), script);
     let mut bytes = [0u8; 544];
-    on_card(rt, &mut bytes[0..card], 8, charge, Under::Nothing, script)
+    play(rt, &mut Card::new(&mut bytes[..card], 8, charge), script);
 }
 
 #[test]
-fn no_page(rt: HostRuntime) -> Result<(), Fail> {
-    on_all(&rt, 0, 0, 1, &NO_PAGE)?;
-    on_all(&rt, 256, 271, 0, &NO_PAGE)
+fn no_page(rt: HostRuntime) {
+    on_all(&rt, 0, 0, 1, &NO_PAGE);
+    on_all(&rt, 256, 271, 0, &NO_PAGE);
 }
 
 #[test]
-fn one_page(rt: HostRuntime) -> Result<(), Fail> {
-    on_all(&rt, 257, 272, 1, &ONE_PAGE)?;
-    on_all(&rt, 513, 543, 1, &ONE_PAGE)
+fn one_page(rt: HostRuntime) {
+    on_all(&rt, 257, 272, 1, &ONE_PAGE);
+    on_all(&rt, 513, 543, 1, &ONE_PAGE);
 }
 
 #[test]
-fn two_pages(rt: HostRuntime) -> Result<(), Fail> {
-    on_all(&rt, 514, 544, 2, &TWO_PAGES)
+fn two_pages(rt: HostRuntime) {
+    on_all(&rt, 514, 544, 2, &TWO_PAGES);
 }
 
 #[test]
-fn no_charge(rt: HostRuntime) -> Result<(), Fail> {
-    on_all(&rt, 514, 544, 0, &NO_CHARGE)
+fn no_charge(rt: HostRuntime) {
+    on_all(&rt, 514, 544, 0, &NO_CHARGE);
 }

@@ -1,9 +1,12 @@
 // A read buffer shows what the medium below has: scripts that go the same way with and without one.
 use crate::script::Step::*;
-use crate::script::{BLACK, DARK, DONE, NOWHERE, OUTSIDE, SHORT, Shown, Step, TORN};
-use crate::stage::{Under, on_card, on_tray};
+use crate::script::{BLACK, DARK, DONE, NOWHERE, OUTSIDE, SHORT, Shown, Step, TORN, play};
+use layers::read_buffer::ReadBuffer;
+use layers::window::Window;
+use media::card::Card;
+use media::tray::Tray;
+use medium::Medium;
 use std::process::Abort;
-use std::test::Fail;
 
 // Six pages and four copies: pages are read and written while their copies are the newest, older, or gone.
 const SIX_PAGES: [Step; 32] = [
@@ -95,35 +98,47 @@ pub fn two_cuts(zero: Shown, one: Shown) -> [Step; 17] {
     ]
 }
 
-// On zero bytes.
-fn on_both(
+// Media that are the same: one alone, one under a read buffer, and one under a window that shows all its pages.
+fn three_ways<M: Medium + Drop>(
     rt: &impl Abort,
-    row: Row,
-    charge: u32,
-    under: Under,
     script: &[Step],
-) -> Result<(), Fail> {
-    on_tray(rt, &mut [0; 1542], row.strike, charge, under, script)?;
-    on_card(rt, &mut [0; 1632], row.stop, charge, under, script)
+    mut alone: M,
+    under: M,
+    behind: M,
+) {
+    play(rt, &mut alone, script);
+    play(rt, &mut ReadBuffer::new(under), script);
+    play(rt, &mut Window::new(0, 65535, behind), script);
+}
+
+// On zero bytes.
+fn on_both(rt: &impl Abort, row: Row, charge: u32, script: &[Step]) {
+    three_ways(
+        rt,
+        script,
+        Tray::new(&mut [0; 1542], row.strike, charge),
+        Tray::new(&mut [0; 1542], row.strike, charge),
+        Tray::new(&mut [0; 1542], row.strike, charge),
+    );
+    three_ways(
+        rt,
+        script,
+        Card::new(&mut [0; 1632], row.stop, charge),
+        Card::new(&mut [0; 1632], row.stop, charge),
+        Card::new(&mut [0; 1632], row.stop, charge),
+    );
 }
 
 #[test]
-fn six_pages(rt: HostRuntime) -> Result<(), Fail> {
+fn six_pages(rt: HostRuntime) {
     for row in CUTS {
-        on_both(&rt, row, 9, Under::Nothing, &SIX_PAGES)?;
-        on_both(&rt, row, 9, Under::Buffer, &SIX_PAGES)?;
-        on_both(&rt, row, 9, Under::Window(0, 65535), &SIX_PAGES)?;
+        on_both(&rt, row, 9, &SIX_PAGES);
     }
-    Ok(())
 }
 
 #[test]
-fn cuts(rt: HostRuntime) -> Result<(), Fail> {
+fn cuts(rt: HostRuntime) {
     for row in CUTS {
-        let script = two_cuts(row.zero, row.one);
-        on_both(&rt, row, 2, Under::Nothing, &script)?;
-        on_both(&rt, row, 2, Under::Buffer, &script)?;
-        on_both(&rt, row, 2, Under::Window(0, 65535), &script)?;
+        on_both(&rt, row, 2, &two_cuts(row.zero, row.one));
     }
-    Ok(())
 }

@@ -1,9 +1,9 @@
 // How many writes a charge is good for.
 use crate::script::Step::*;
-use crate::script::{Answer, BLACK, DARK, DONE, LENGTH, OUTSIDE, Step, TORN};
-use crate::stage::{Under, on_card, on_tray};
-use std::process::Abort;
-use std::test::Fail;
+use crate::script::{Answer, BLACK, DARK, DONE, LENGTH, OUTSIDE, Step, TORN, play};
+use media::card::Card;
+use media::strike::Strike;
+use media::tray::Tray;
 
 // Which of four writes are done; the others find it dark.
 #[derive(Clone, Copy)]
@@ -62,17 +62,19 @@ fn writes(made: Row, relit: Row) -> [Step; 19] {
     ]
 }
 
-fn on_both(rt: &impl Abort, charge: u32, script: &[Step]) -> Result<(), Fail> {
-    on_tray(rt, &mut [0; 514], 2, charge, Under::Nothing, script)?;
-    on_card(rt, &mut [0; 544], 8, charge, Under::Nothing, script)
-}
-
 #[test]
-fn charges(rt: HostRuntime) -> Result<(), Fail> {
+fn charges(rt: HostRuntime) {
     for made in CHARGES {
         for relit in CHARGES {
-            on_both(&rt, made.charge, &writes(made, relit))?;
+            let script = writes(made, relit);
+            let mut bytes = [0; 514];
+            play(
+                &rt,
+                &mut Tray::new(&mut bytes, Strike::Torn as u8, made.charge),
+                &script,
+            );
+            let mut bytes = [0; 544];
+            play(&rt, &mut Card::new(&mut bytes, 8, made.charge), &script);
         }
     }
-    Ok(())
 }

@@ -2,7 +2,7 @@
 ghost use Rattle.std.specs.Prelude.{◌≡◌};
 ghost use Rattle.medium.specs.Outcome.{Gives};
 ghost use Rattle.media.specs.Card.{card_coding};
-ghost use Rattle.media.specs.Lent.{Lent, fresh, store};
+ghost use Rattle.media.specs.Lent.{Parts, fresh, store};
 ghost use Rattle.media.specs.Tray.{tray_coding};
 
 use media::card::Card;
@@ -16,7 +16,7 @@ pub fn write_on_tray(
     page: u16,
     from: &[u8],
 ) -> Result<(), Cause>
-    ensures { (l : Lent)
+    ensures { (l : Parts)
         × Gives (store tray_coding (fresh bytes.old strike charge) page from.now) result l
         × (bytes.new ≡ l.bytes) }
 {
@@ -31,7 +31,7 @@ pub fn write_on_card(
     page: u16,
     from: &[u8],
 ) -> Result<(), Cause>
-    ensures { (l : Lent)
+    ensures { (l : Parts)
         × Gives (store card_coding (fresh bytes.old stop charge) page from.now) result l
         × (bytes.new ≡ l.bytes) }
 {

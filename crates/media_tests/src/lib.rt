@@ -19,8 +19,6 @@ mod script;
 #[cfg(test)]
 mod sizes;
 #[cfg(test)]
-mod stage;
-#[cfg(test)]
 mod strikes;
 #[cfg(test)]
 mod ticks;

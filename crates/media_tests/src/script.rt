@@ -2,7 +2,6 @@
 use crate::bytes::{all, holds, lay, rising};
 use medium::{Cause, Medium};
 use std::process::Abort;
-use std::test::Fail;
 
 pub type Answer = Result<(), Cause>;
 
@@ -48,7 +47,7 @@ fn reads<M: Medium>(
     len: usize,
     page: u16,
     shown: Shown,
-) -> Result<(), Fail> {
+) {
     let mut buffer = [5u8; 300];
     assert!(rt; len <= 300);
     let into = &mut buffer[0..len];
@@ -59,7 +58,6 @@ fn reads<M: Medium>(
     };
     assert_eq!(rt; answer, expected, "step {step}");
     assert!(rt; filled, "step {step}");
-    Ok(())
 }
 
 fn writes<M: Medium>(
@@ -70,36 +68,28 @@ fn writes<M: Medium>(
     page: u16,
     first: u8,
     answer: Answer,
-) -> Result<(), Fail> {
+) {
     let mut buffer = [0u8; 300];
     lay(&mut buffer, 0, &rising(first));
     assert!(rt; len <= 300);
     assert_eq!(rt; medium.write(page, &buffer[0..len]), answer, "step {step}");
-    Ok(())
 }
 
-fn follow<M: Medium>(rt: &impl Abort, i: usize, medium: &mut M, step: Step) -> Result<(), Fail> {
+fn follow<M: Medium>(rt: &impl Abort, i: usize, medium: &mut M, step: Step) {
     match step {
-        Step::Size(size) => {
-            assert_eq!(rt; medium.size(), size, "step {i}");
-            Ok(())
-        },
+        Step::Size(size) => assert_eq!(rt; medium.size(), size, "step {i}"),
         Step::Read(page, shown) => reads(rt, i, medium, 256, page, shown),
         Step::Write(page, first, answer) => writes(rt, i, medium, 256, page, first, answer),
         Step::ReadInto(len, page, shown) => reads(rt, i, medium, len, page, shown),
         Step::WriteFrom(len, page, first, answer) => writes(
             rt, i, medium, len, page, first, answer,
         ),
-        Step::Relight(charge) => {
-            medium.relight(charge);
-            Ok(())
-        }
+        Step::Relight(charge) => medium.relight(charge),
     }
 }
 
-pub fn play<M: Medium>(rt: &impl Abort, medium: &mut M, script: &[Step]) -> Result<(), Fail> {
+pub fn play<M: Medium>(rt: &impl Abort, medium: &mut M, script: &[Step]) {
     for (i, step) in script.iter().enumerate() {
-        follow(rt, i, medium, *step)?;
+        follow(rt, i, medium, *step);
     }
-    Ok(())
 }

@@ -1,10 +1,10 @@
 // At most 65,535 pages, however many bytes are lent.
 use crate::bytes::{card_page, holds, tray_page};
 use crate::script::Step::*;
-use crate::script::{DONE, NOWHERE, OUTSIDE, Step};
-use crate::stage::{Under, on_card, on_tray};
-use std::alloc::Global;
-use std::process::Abort;
+use crate::script::{DONE, NOWHERE, OUTSIDE, Step, play};
+use media::card::Card;
+use media::strike::Strike;
+use media::tray::Tray;
 use std::test::Fail;
 
 // The pages that there is room for, the size, and the last page.
@@ -51,27 +51,21 @@ fn to_the_end(row: &Row) -> [Step; 7] {
     ]
 }
 
-fn of_a_tray(rt: &impl Abort, heap: Global, row: &Row) -> Result<(), Fail> {
-    assert!(rt; row.pages <= 65800);
-    let mut bytes = vec![in heap; 0u8; row.pages * 257]?;
-    on_tray(rt, &mut bytes, 2, 1, Under::Nothing, &to_the_end(row))?;
-    assert!(rt; holds(&bytes, row.last as usize * 257, &tray_page(30, 1)));
-    Ok(())
-}
-
-fn of_a_card(rt: &impl Abort, heap: Global, row: &Row) -> Result<(), Fail> {
-    assert!(rt; row.pages <= 65800);
-    let mut bytes = vec![in heap; 0u8; row.pages * 272]?;
-    on_card(rt, &mut bytes, 8, 1, Under::Nothing, &to_the_end(row))?;
-    assert!(rt; holds(&bytes, row.last as usize * 272, &card_page(30, [1; 16])));
-    Ok(())
-}
-
 #[test]
 fn sizes(rt: HostRuntime) -> Result<(), Fail> {
     for row in &SIZES {
-        of_a_tray(&rt, rt.alloc(), row)?;
-        of_a_card(&rt, rt.alloc(), row)?;
+        let last = usize::from(row.last);
+        assert!(rt; row.pages <= 65800);
+        let mut bytes = vec![in rt.alloc(); 0u8; row.pages * 257]?;
+        play(
+            &rt,
+            &mut Tray::new(&mut bytes, Strike::Torn as u8, 1),
+            &to_the_end(row),
+        );
+        assert!(rt; holds(&bytes, last * 257, &tray_page(30, 1)));
+        let mut bytes = vec![in rt.alloc(); 0u8; row.pages * 272]?;
+        play(&rt, &mut Card::new(&mut bytes, 8, 1), &to_the_end(row));
+        assert!(rt; holds(&bytes, last * 272, &card_page(30, [1; 16])));
     }
     Ok(())
 }

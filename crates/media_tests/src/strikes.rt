@@ -1,10 +1,9 @@
 // What a power cut in a write leaves: in the bytes, and to be read once the power is back.
 use crate::bytes::{card_page, card_torn, laid, tray_page};
 use crate::script::Step::*;
-use crate::script::{BLACK, DARK, Shown, Step, TORN};
-use crate::stage::{Under, on_card, on_tray};
-use std::process::Abort;
-use std::test::Fail;
+use crate::script::{BLACK, DARK, Shown, Step, TORN, play};
+use media::card::Card;
+use media::tray::Tray;
 
 // A strike on a page with content from 30 on, in a write of that from 70 on: a tray's number; what a read shows then,
 // and the content and the mark that stand in the bytes.
@@ -182,68 +181,49 @@ fn struck(first: u8, shown: Shown) -> [Step; 5] {
 }
 
 #[test]
-fn tray_strikes(rt: HostRuntime) -> Result<(), Fail> {
+fn tray_strikes(rt: HostRuntime) {
     for row in &TRAYS {
         let mut bytes = laid(257, &tray_page(30, 1));
-        on_tray(
+        play(
             &rt,
-            &mut bytes,
-            row.strike,
-            0,
-            Under::Nothing,
+            &mut Tray::new(&mut bytes, row.strike, 0),
             &struck(70, row.shown),
-        )?;
+        );
         let left = laid(257, &tray_page(row.first, row.mark));
         assert!(rt; bytes == left, "{}", row.strike);
     }
-    Ok(())
 }
 
 #[test]
-fn card_stops(rt: HostRuntime) -> Result<(), Fail> {
+fn card_stops(rt: HostRuntime) {
     let old = card_page(30, [4; 16]);
     let new = card_page(70, [1; 16]);
     for row in &CARDS {
         let mut bytes = laid(272, &old);
-        on_card(
+        play(
             &rt,
-            &mut bytes,
-            row.stop,
-            0,
-            Under::Nothing,
+            &mut Card::new(&mut bytes, row.stop, 0),
             &struck(70, row.shown),
-        )?;
+        );
         let left = laid(272, &card_torn(old, new, row.sectors));
         assert!(rt; bytes == left, "{}", row.stop);
     }
-    Ok(())
 }
 
 #[test]
-fn half_on_half(rt: HostRuntime) -> Result<(), Fail> {
+fn half_on_half(rt: HostRuntime) {
     let old = card_page(30, [4; 16]);
     let new = card_page(70, [1; 16]);
     let mut bytes = laid(272, &old);
-    on_card(&rt, &mut bytes, 8, 0, Under::Nothing, &HALVES)?;
+    play(&rt, &mut Card::new(&mut bytes, 8, 0), &HALVES);
     assert!(rt; bytes == laid(272, &card_torn(old, new, 8)));
-    Ok(())
-}
-
-fn lives(rt: &impl Abort, bytes: &mut [u8]) -> Result<(), Fail> {
-    for life in &LIVES {
-        on_card(
-            rt,
-            bytes,
-            life.stop,
-            0,
-            Under::Nothing,
-            &struck(life.first, life.shown),
-        )?;
-    }
-    Ok(())
 }
 
 #[test]
-fn lives_of_one_page(rt: HostRuntime) -> Result<(), Fail> {
-    lives(&rt, &mut [0; 544])
+fn lives_of_one_page(rt: HostRuntime) {
+    let mut bytes = [0; 544];
+    for life in &LIVES {
+        let mut card = Card::new(&mut bytes, life.stop, 0);
+        play(&rt, &mut card, &struck(life.first, life.shown));
+    }
 }

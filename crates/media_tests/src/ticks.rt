@@ -1,9 +1,8 @@
 // The tick that a write gives a page: the smallest from 1 on that none of its sectors carries.
 use crate::bytes::{card_page, laid};
-use crate::script::DONE;
 use crate::script::Step::Write;
-use crate::stage::{Under, on_card};
-use std::test::Fail;
+use crate::script::{DONE, play};
+use media::card::Card;
 
 // The ticks of the sixteen sectors before a write, and the tick of all after it.
 const NEXT: [([u8; 16], u8); 12] = [
@@ -23,11 +22,10 @@ const NEXT: [([u8; 16], u8); 12] = [
 
 // A write to page 1 gives it the new tick and changes no other page, nor the spare bytes.
 #[test]
-fn next_ticks(rt: HostRuntime) -> Result<(), Fail> {
+fn next_ticks(rt: HostRuntime) {
     for (old, new) in NEXT {
         let mut bytes = laid(272, &card_page(30, old));
-        on_card(&rt, &mut bytes, 8, 1, Under::Nothing, &[Write(1, 70, DONE)])?;
+        play(&rt, &mut Card::new(&mut bytes, 8, 1), &[Write(1, 70, DONE)]);
         assert!(rt; bytes == laid(272, &card_page(70, [new; 16])), "{}", new);
     }
-    Ok(())
 }

@@ -1,18 +1,20 @@
 // Which pages of the medium below a window shows.
-use crate::bytes::{lay, tray_page};
+use crate::bytes::tray_page;
 use crate::script::Step::*;
-use crate::script::{Answer, BLACK, DARK, DONE, NOWHERE, OUTSIDE, Shown, Step};
-use crate::stage::{Under, on_tray};
-use std::test::Fail;
+use crate::script::{Answer, BLACK, DARK, NOWHERE, OUTSIDE, Shown, Step, play};
+use layers::window::Window;
+use media::strike::Strike;
+use media::tray::Tray;
+use medium::Cause;
 
-// A window over four pages with contents from 10, 20, 30 and 40 on: its size, what its pages 0 to 3 show, 0 for a
-// page that it has not, and the pages below once 80 is written to page 0 and 90 to page 1, where it has them.
+// A window over four pages with contents from 10, 20, 30 and 40 on: its size, what its pages 0 to 3 show, if it has
+// them, and the pages below once 80 is written to page 0 and 90 to page 1, where it has them.
 #[derive(Clone, Copy)]
 struct Row {
     first: u16,
     count: u16,
     size: u16,
-    pages: [u8; 4],
+    pages: [Option<u8>; 4],
     after: [u8; 4],
 }
 
@@ -21,135 +23,131 @@ const WINDOWS: [Row; 16] = [
         first: 0,
         count: 4,
         size: 4,
-        pages: [10, 20, 30, 40],
+        pages: [Some(10), Some(20), Some(30), Some(40)],
         after: [80, 90, 30, 40],
     },
     Row {
         first: 0,
         count: 3,
         size: 3,
-        pages: [10, 20, 30, 0],
+        pages: [Some(10), Some(20), Some(30), None],
         after: [80, 90, 30, 40],
     },
     Row {
         first: 0,
         count: 1,
         size: 1,
-        pages: [10, 0, 0, 0],
+        pages: [Some(10), None, None, None],
         after: [80, 20, 30, 40],
     },
     Row {
         first: 0,
         count: 65535,
         size: 4,
-        pages: [10, 20, 30, 40],
+        pages: [Some(10), Some(20), Some(30), Some(40)],
         after: [80, 90, 30, 40],
     },
     Row {
         first: 1,
         count: 2,
         size: 2,
-        pages: [20, 30, 0, 0],
+        pages: [Some(20), Some(30), None, None],
         after: [10, 80, 90, 40],
     },
     Row {
         first: 1,
         count: 3,
         size: 3,
-        pages: [20, 30, 40, 0],
+        pages: [Some(20), Some(30), Some(40), None],
         after: [10, 80, 90, 40],
     },
     Row {
         first: 1,
         count: 4,
         size: 3,
-        pages: [20, 30, 40, 0],
+        pages: [Some(20), Some(30), Some(40), None],
         after: [10, 80, 90, 40],
     },
     Row {
         first: 1,
         count: 65535,
         size: 3,
-        pages: [20, 30, 40, 0],
+        pages: [Some(20), Some(30), Some(40), None],
         after: [10, 80, 90, 40],
     },
     Row {
         first: 2,
         count: 65535,
         size: 2,
-        pages: [30, 40, 0, 0],
+        pages: [Some(30), Some(40), None, None],
         after: [10, 20, 80, 90],
     },
     Row {
         first: 3,
         count: 1,
         size: 1,
-        pages: [40, 0, 0, 0],
+        pages: [Some(40), None, None, None],
         after: [10, 20, 30, 80],
     },
     Row {
         first: 3,
         count: 65535,
         size: 1,
-        pages: [40, 0, 0, 0],
+        pages: [Some(40), None, None, None],
         after: [10, 20, 30, 80],
     },
     Row {
         first: 0,
         count: 0,
         size: 0,
-        pages: [0; 4],
+        pages: [None; 4],
         after: [10, 20, 30, 40],
     },
     Row {
         first: 1,
         count: 0,
         size: 0,
-        pages: [0; 4],
+        pages: [None; 4],
         after: [10, 20, 30, 40],
     },
     Row {
         first: 4,
         count: 1,
         size: 0,
-        pages: [0; 4],
+        pages: [None; 4],
         after: [10, 20, 30, 40],
     },
     Row {
         first: 65535,
         count: 1,
         size: 0,
-        pages: [0; 4],
+        pages: [None; 4],
         after: [10, 20, 30, 40],
     },
     Row {
         first: 65535,
         count: 65535,
         size: 0,
-        pages: [0; 4],
+        pages: [None; 4],
         after: [10, 20, 30, 40],
     },
 ];
 
-fn lay_pages(bytes: &mut [u8], firsts: [u8; 4]) {
-    for i in 0..4usize {
-        lay(bytes, i * 257, &tray_page(firsts[i], 1));
-    }
-}
-
 // A tray's bytes with these pages, and some spare bytes.
 fn four_pages(firsts: [u8; 4]) -> [u8; 1100] {
     let mut bytes = [9u8; 1100];
-    lay_pages(&mut bytes, firsts);
+    for (page, first) in bytes.chunks_exact_mut(257).zip(firsts) {
+        page.copy_from_slice(&tray_page(first, 1));
+    }
     bytes
 }
 
-fn shown(first: u8) -> Shown {
-    if first == 0 { NOWHERE } else { Ok(first) }
+fn shown(page: Option<u8>) -> Shown {
+    page.ok_or(Cause::Outside)
 }
 
-fn written(first: u8) -> Answer {
-    if first == 0 { OUTSIDE } else { DONE }
+fn written(page: Option<u8>) -> Answer {
+    page.map(|_| ()).ok_or(Cause::Outside)
 }
 
 fn in_the_light(row: &Row) -> [Step; 13] {
@@ -185,23 +183,30 @@ fn in_the_dark(row: &Row) -> [Step; 7] {
 }
 
 #[test]
-fn windows(rt: HostRuntime) -> Result<(), Fail> {
+fn windows(rt: HostRuntime) {
     for row in &WINDOWS {
-        let under = Under::Window(row.first, row.count);
         let mut bytes = four_pages([10, 20, 30, 40]);
-        on_tray(&rt, &mut bytes, 2, 2, under, &in_the_light(row))?;
+        let tray = Tray::new(&mut bytes, Strike::Torn as u8, 2);
+        play(
+            &rt,
+            &mut Window::new(row.first, row.count, tray),
+            &in_the_light(row),
+        );
         assert!(rt; bytes == four_pages(row.after), "{}", row.first);
     }
-    Ok(())
 }
 
 #[test]
-fn dark_windows(rt: HostRuntime) -> Result<(), Fail> {
+fn dark_windows(rt: HostRuntime) {
     for row in &WINDOWS {
-        let under = Under::DarkWindow(row.first, row.count);
         let mut bytes = four_pages([10, 20, 30, 40]);
-        on_tray(&rt, &mut bytes, 0, 0, under, &in_the_dark(row))?;
+        let mut tray = Tray::new(&mut bytes, Strike::Old as u8, 0);
+        play(&rt, &mut tray, &[Write(0, 50, DARK)]);
+        play(
+            &rt,
+            &mut Window::new(row.first, row.count, tray),
+            &in_the_dark(row),
+        );
         assert!(rt; bytes == four_pages([10, 20, 30, 40]), "{}", row.first);
     }
-    Ok(())
 }

@@ -1,3 +1,4 @@
 pub mod Meaning
 pub mod Outcome
 pub mod Rules
+pub mod Words

@@ -1,9 +1,12 @@
 #![tactic(auto)]
 
-ghost use Rattle.std.specs.Prelude.{◌≡◌, ◌<◌, length, Ok};
+ghost use Rattle.std.specs.Prelude.{◌≡◌, ◌<◌, length, Some, Ok};
 ghost use Rattle.medium.specs.Meaning.{Meaning, size};
 ghost use Rattle.medium.specs.Outcome.{Gives};
 ghost use Rattle.medium.specs.Rules.{refusal, allowed, reads, filled, plainly, write, relit};
+ghost use Rattle.medium.specs.Words.{word_of};
+
+use std::fmt;
 
 // The bytes of a page.
 pub const PAGE: usize = 256;
@@ -19,6 +22,20 @@ pub enum Cause {
     Length,
     // the page was never written, or is torn
     Unreadable,
+}
+
+// In a word.
+impl fmt::Display for Cause {
+    ghost output = { λ c. Some (word_of c) };
+
+    fn fmt<W: fmt::Write>(&self, f: &mut fmt::Formatter<W>) -> fmt::Result {
+        f.write_str(match self {
+            Cause::Dark => "dark",
+            Cause::Outside => "outside",
+            Cause::Length => "length",
+            Cause::Unreadable => "unreadable",
+        })
+    }
 }
 
 // Numbered pages of 256 bytes under a power supply that may fail in a write.

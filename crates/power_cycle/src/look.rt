@@ -16,10 +16,7 @@ pub fn level_of(page: &[u8; PAGE]) -> Option<u8>
         (λ v. AllAt v page.now) }
 {
     let level = page[0];
-    for channel in page {
-        if *channel != level {
-            return None;
-        }
-    }
-    Some(level)
+    page.iter()
+        .all(|channel| *channel == level)
+        .then_some(level)
 }

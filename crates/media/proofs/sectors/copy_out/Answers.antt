@@ -1,10 +1,9 @@
 use Rattle.std.proofs.Common.{◌≡◌, ◌<◌, length, sym, refl, ap, ◌∙◌, arith}
 use Rattle.std.proofs.lemmas.List.FromFn.{fill_by_all}
-use Rattle.std.proofs.lemmas.List.Edits.{fill_by_more}
 use Rattle.std.proofs.lemmas.Bool.Decides.{not_from_Decides}
 use Rattle.medium.specs.Rules.{readable, plainly, filled}
 use Rattle.media.specs.Card.{content}
-use Rattle.media.proofs.Cards.{page_none, page_whole}
+use Rattle.media.specs.Laws.Cards.{page_none, page_whole}
 use Rattle.media.proofs.sectors.copy_out.Goals as goal
 
 pub returns-then-not-whole : goal.returns-then-not-whole
@@ -15,20 +14,13 @@ returns-then-not-whole c =
       buffer = sym (ap (λ p. filled c.args.into.now (readable p)) e);
     }
 
-pub loop-i-preserved : goal.loop-i-preserved
-loop-i-preserved c =
-    let lt : c.loop-i.i < length c.loop-i.into = omega arith in
-    rw c.content.ensures
-    (fill_by_more (content c.args.bytes.now c.args.page) c.loop-i.into c.loop-i.i 0 lt
-    c.loop-i.invariant)
-
 pub returns : goal.returns
 returns c =
     let e = page_whole c.args.bytes.now c.args.page (c.if-not-whole.ensures.0 refl) in
-    let len : length c.loop-i.into ≡ 256 = omega arith in
+    let len : length c.loop-at.into ≡ 256 = omega arith in
     let all =
-    fill_by_all (content c.args.bytes.now c.args.page) c.loop-i.into 256 0 len
-    (λ k h. let l : k < c.loop-i.i = omega arith in c.loop-i.invariant k l) in
+    fill_by_all (content c.args.bytes.now c.args.page) c.loop-at.into 256 0 len
+    (λ k h. let l : k < c.loop-at.at = omega arith in c.loop-at.invariant k l) in
     record {
       answer = sym (ap (λ p. plainly (readable p)) e);
       buffer = all ∙ sym (ap (λ p. filled c.args.into.now (readable p)) e);

@@ -1,22 +1,35 @@
-use Rattle.std.proofs.Common.{◌≡◌, ℕ, sym, refl, subst, ⊎_elim, arith}
-use Rattle.std.proofs.lemmas.Bool.{cases_eq}
-use Rattle.media.specs.Card.{Carried}
-use Rattle.media.proofs.Ticks.{not_all_carried}
+use Rattle.std.proofs.Common.{ℕ, ◌<◌, ◌≤◌, Some, None, Option, MatchOption, subst, arith, rules, tests}
+use Rattle.std.specs.Option.{IsSome}
+use Rattle.std.proofs.lemmas.Iterator.{first_from_Range}
+use Rattle.medium.specs.Meaning.{Bytes}
+use Rattle.media.specs.Card.{Carried, NextTick}
+use Rattle.media.specs.Laws.Ticks.{not_all_carried}
 use Rattle.media.proofs.sectors.free_tick.Goals as goal
-use Rattle.media.proofs.sectors.free_tick.Goals.{else-loop-mark-test, then-loop-mark-test+else-not-carried+else-mark-lt255}
 
-pub loop-mark-preserved : goal.loop-mark-preserved
-loop-mark-preserved c = λ u lo hi.
-    ⊎_elim
-    (λ (e : u ≡ c.loop-mark.mark).
-    subst (λ (n : ℕ). Carried c.args.bytes.now c.args.page n) (sym e) (c.if-not-carried.ensures.0 refl))
-    (λ ne. c.loop-mark.invariant u lo (omega arith))
-    (cases_eq u c.loop-mark.mark)
+module _ (bs : Bytes) (i : ℕ) where
+  -- What the search found: no tick, or the first that no sector carries.
+  abbrev Found : Option ℕ → Type 0
+  Found r = MatchOption r ((t : ℕ) → 1 ≤ t → t < 255 → Carried bs i t)
+      (λ t. (1 ≤ t) × (t < 255) × (Carried bs i t → ⊥) × ((u : ℕ) → 1 ≤ u → u < t → Carried bs i u))
 
-pub unreachable-requires : goal.unreachable-requires
-unreachable-requires c =
-    let full = not_all_carried c.args.bytes.now c.args.page c.loop-mark.mark in
-    elim c.loop-mark-test.branch [
-      | else-loop-mark-test w ↦ full (omega arith) c.loop-mark.invariant
-      | then-loop-mark-test+else-not-carried+else-mark-lt255 w ↦ full (omega arith) c.loop-mark.invariant
-    ]
+  some_free : (r : Option ℕ) → Found r → IsSome r
+  some_free None all = absurd (not_all_carried bs i 255 (omega arith) all)
+  some_free (Some t) f = search rules
+
+  free_is : (t : ℕ) → Found (Some t) → NextTick bs i t
+  free_is t f = record { low = f.0; high = omega (arith, f.1); free = f.2; smallest = f.3 }
+
+pub unwrap-requires : goal.unwrap-requires
+unwrap-requires c =
+    let bs = c.args.bytes.now in
+    some_free bs c.args.page c.find.result
+    (first_from_Range _ _ _ c.find.result (λ t. Carried bs c.args.page t → ⊥) (Carried bs c.args.page) c.find.ensures.ran
+    (λ x q k. search (rules, tests)) (λ x q k. search (rules, tests)))
+
+pub returns : goal.returns
+returns c =
+    let bs = c.args.bytes.now in
+    free_is bs c.args.page c.unwrap.result
+    (subst (Found bs c.args.page) c.unwrap.ensures
+    (first_from_Range _ _ _ c.find.result (λ t. Carried bs c.args.page t → ⊥) (Carried bs c.args.page) c.find.ensures.ran
+    (λ x q k. search (rules, tests)) (λ x q k. search (rules, tests))))

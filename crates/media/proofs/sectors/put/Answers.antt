@@ -1,6 +1,6 @@
 use Rattle.std.proofs.Common.{◌≡◌, refl, ap, ◌∙◌, arith}
 use Rattle.media.specs.Card.{put_sectors}
-use Rattle.media.proofs.Ticks.{next_tick_only}
+use Rattle.media.specs.Laws.Ticks.{next_tick_only}
 use Rattle.media.proofs.sectors.put.Goals as goal
 
 pub loop-sector-init : goal.loop-sector-init

@@ -1,6 +1,0 @@
-use Rattle.std.proofs.Common.{◌≡◌, ℕ, ◌<◌}
-use Rattle.media.specs.Card.{tick}
-use Rattle.media.proofs.sectors.whole.Given as goal
-
-abbrev pub invariant-loop-sector : goal.invariant-loop-sector
-invariant-loop-sector l = (s : ℕ) → s < l.sector → tick l.bytes l.page s ≡ l.first
