@@ -1,3 +1,4 @@
+pub mod Below
 pub mod Buffer
 pub mod Copies
 pub mod Window

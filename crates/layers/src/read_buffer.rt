@@ -1,6 +1,7 @@
 ghost use Rattle.std.specs.Prelude.{◌≡◌, length};
 ghost use Rattle.medium.specs.Outcome.{Gives};
 ghost use Rattle.medium.specs.Rules.{reads, filled, plainly, write, relit};
+ghost use Rattle.layers.specs.Below.{Reads, Writes};
 ghost use Rattle.layers.specs.Buffer.{InOrder, Spares, finds};
 ghost use Rattle.layers.specs.Copies.{none, settled};
 
@@ -29,15 +30,8 @@ impl<M: Medium> ReadBuffer<M> {
 
     // Reads a page from its copy, or below if there is none.
     fn look(&mut self, page: u16, into: &mut [u8]) -> Result<(), Cause>
-        ensures keeps { M.Medium.inorder self.old.below
-            → M.Medium.inorder self.new.below }
-        ensures answer { M.Medium.inorder self.old.below
-            → result ≡ plainly (finds M.Medium self.old page (length into.old)) }
-        ensures buffer { M.Medium.inorder self.old.below
-            → into.new ≡ filled into.old
-            (finds M.Medium self.old page (length into.old)) }
-        ensures same { M.Medium.inorder self.old.below
-            → M.Medium.means self.new.below ≡ M.Medium.means self.old.below }
+        ensures reads { Reads M.Medium self.old.below self.new.below result
+            (finds M.Medium self.old page (length into.old)) into.old into.new }
         ensures spares { Spares self.old self.new page (length into.old) }
         ensures copies { self.new.copies ≡ self.old.copies }
     {
@@ -52,15 +46,8 @@ impl<M: Medium> ReadBuffer<M> {
 
     // The same, and the copies are settled.
     fn fetch(&mut self, page: u16, into: &mut [u8]) -> Result<(), Cause>
-        ensures keeps { M.Medium.inorder self.old.below
-            → M.Medium.inorder self.new.below }
-        ensures answer { M.Medium.inorder self.old.below
-            → result ≡ plainly (finds M.Medium self.old page (length into.old)) }
-        ensures buffer { M.Medium.inorder self.old.below
-            → into.new ≡ filled into.old
-            (finds M.Medium self.old page (length into.old)) }
-        ensures same { M.Medium.inorder self.old.below
-            → M.Medium.means self.new.below ≡ M.Medium.means self.old.below }
+        ensures reads { Reads M.Medium self.old.below self.new.below result
+            (finds M.Medium self.old page (length into.old)) into.old into.new }
         ensures spares { Spares self.old self.new page (length into.old) }
         ensures copies { self.new.copies
             ≡ settled result page into.new self.old.copies }
@@ -72,11 +59,8 @@ impl<M: Medium> ReadBuffer<M> {
 
     // Writes a page below, and the copies are settled.
     fn store(&mut self, page: u16, from: &[u8]) -> Result<(), Cause>
-        ensures keeps { M.Medium.inorder self.old.below
-            → M.Medium.inorder self.new.below }
-        ensures gives { M.Medium.inorder self.old.below
-            → Gives (write (M.Medium.means self.old.below) page from.now) result
-            (M.Medium.means self.new.below) }
+        ensures writes { Writes M.Medium self.old.below self.new.below result
+            (write (M.Medium.means self.old.below) page from.now) }
         ensures copies { self.new.copies
             ≡ settled result page from.now self.old.copies }
     {

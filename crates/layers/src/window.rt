@@ -1,6 +1,7 @@
 ghost use Rattle.std.specs.Prelude.{◌≡◌, ◌-◌, min, length};
 ghost use Rattle.medium.specs.Outcome.{Gives};
 ghost use Rattle.medium.specs.Rules.{reads, filled, plainly, write, relit};
+ghost use Rattle.layers.specs.Below.{Reads, Writes};
 ghost use Rattle.layers.specs.Window.{place, view, reads_below, write_below, Fixed};
 
 use medium::{Cause, Medium};
@@ -49,15 +50,8 @@ impl<M: Medium> Window<M> {
 
     // Reads below the page that a page of the window is.
     fn read_below(&mut self, page: u16, into: &mut [u8]) -> Result<(), Cause>
-        ensures keeps { M.Medium.inorder self.old.below
-            → M.Medium.inorder self.new.below }
-        ensures answer { M.Medium.inorder self.old.below
-            → result ≡ plainly (reads_below M.Medium self.old page (length into.old)) }
-        ensures buffer { M.Medium.inorder self.old.below
-            → into.new ≡ filled into.old
-            (reads_below M.Medium self.old page (length into.old)) }
-        ensures below { M.Medium.inorder self.old.below
-            → M.Medium.means self.new.below ≡ M.Medium.means self.old.below }
+        ensures reads { Reads M.Medium self.old.below self.new.below result
+            (reads_below M.Medium self.old page (length into.old)) into.old into.new }
         ensures fixed { Fixed self.old self.new }
     {
         let place = placed(self.first, self.count, self.below.size(), page);
@@ -66,11 +60,8 @@ impl<M: Medium> Window<M> {
 
     // Writes below the page that a page of the window is.
     fn write_below(&mut self, page: u16, from: &[u8]) -> Result<(), Cause>
-        ensures keeps { M.Medium.inorder self.old.below
-            → M.Medium.inorder self.new.below }
-        ensures below { M.Medium.inorder self.old.below
-            → Gives (write_below M.Medium self.old page from.now) result
-            (M.Medium.means self.new.below) }
+        ensures writes { Writes M.Medium self.old.below self.new.below result
+            (write_below M.Medium self.old page from.now) }
         ensures fixed { Fixed self.old self.new }
     {
         let place = placed(self.first, self.count, self.below.size(), page);

@@ -12,11 +12,12 @@ returns g c =
     let h = c.fetch.ensures in
     record {
       keeps = λ ok.
+          let r = h.reads ok.0 in
           let known = agreed_read m i b.copies ok.1 into in
-          (h.keeps ok.0, simp (h.same ok.0, h.copies, h.answer ok.0, h.buffer ok.0, e ok.1) known);
-      answer = λ ok. rw (e ok.1) at (h.answer ok.0);
-      buffer = λ ok. rw (e ok.1) at (h.buffer ok.0);
-      same = λ ok. h.same ok.0;
+          (r.keeps, simp (r.same, h.copies, r.answers, r.buffer, e ok.1) known);
+      answer = λ ok. rw (e ok.1) at (h.reads ok.0).answers;
+      buffer = λ ok. rw (e ok.1) at (h.reads ok.0).buffer;
+      same = λ ok. (h.reads ok.0).same;
       spares = h.spares;
       copies = h.copies;
     }

@@ -9,7 +9,7 @@ returns g c =
     record {
       keeps = λ ok.
           let then = agreed_written m c.args.page b.copies ok.1 c.args.from.now c.store.result _ in
-          (h.keeps ok.0, simp h.copies (then (h.gives ok.0)));
-      gives = λ ok. h.gives ok.0;
+          ((h.writes ok.0).keeps, simp h.copies (then (h.writes ok.0).gives));
+      gives = λ ok. (h.writes ok.0).gives;
       copies = h.copies;
     }

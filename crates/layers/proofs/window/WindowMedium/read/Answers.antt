@@ -9,10 +9,10 @@ returns g c =
     let e = reads_through w.first w.count c.args.page m (length c.args.into.now) in
     let h = c.read_below.ensures in
     record {
-      keeps = h.keeps;
-      answer = λ ok. rw e at (h.answer ok);
-      buffer = λ ok. rw e at (h.buffer ok);
+      keeps = λ ok. (h.reads ok).keeps;
+      answer = λ ok. rw e at (h.reads ok).answers;
+      buffer = λ ok. rw e at (h.reads ok).buffer;
       same = search rules;
-      below = h.below;
+      below = λ ok. (h.reads ok).same;
       fixed = h.fixed;
     }

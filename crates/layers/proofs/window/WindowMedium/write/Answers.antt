@@ -8,8 +8,8 @@ returns g c =
     let h = c.write_below.ensures in
     let after = write_through w.first w.count c.args.page m c.args.from.now c.write_below.result _ in
     record {
-      keeps = h.keeps;
-      gives = λ ok. simp (h.fixed.0, h.fixed.1) (after (h.below ok));
-      below = h.below;
+      keeps = λ ok. (h.writes ok).keeps;
+      gives = λ ok. simp (h.fixed.0, h.fixed.1) (after (h.writes ok).gives);
+      below = λ ok. (h.writes ok).gives;
       fixed = h.fixed;
     }
