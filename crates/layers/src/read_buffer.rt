@@ -35,13 +35,13 @@ impl<M: Medium> ReadBuffer<M> {
         ensures spares { Spares self.old self.new page (length into.old) }
         ensures copies { self.new.copies ≡ self.old.copies }
     {
-        if into.len() == PAGE {
-            if let Some(sheet) = self.copies.find(page) {
+        match self.copies.find(page) {
+            Some(sheet) if into.len() == PAGE => {
                 into.copy_from_slice(&sheet.bytes);
-                return Ok(());
+                Ok(())
             }
+            _ => self.below.read(page, into),
         }
-        self.below.read(page, into)
     }
 
     // The same, and the copies are settled.

@@ -1,8 +1,9 @@
 ghost use Rattle.std.specs.Prelude.{◌≡◌, ◌-◌, min, length};
+ghost use Rattle.medium.specs.Meaning.{size};
 ghost use Rattle.medium.specs.Outcome.{Gives};
 ghost use Rattle.medium.specs.Rules.{reads, filled, plainly, write, relit};
 ghost use Rattle.layers.specs.Below.{Reads, Writes};
-ghost use Rattle.layers.specs.Window.{place, view, reads_below, write_below, Fixed};
+ghost use Rattle.layers.specs.Window.{view, spot, reads_below, write_below, Fixed};
 
 use medium::{Cause, Medium};
 
@@ -12,24 +13,6 @@ pub struct Window<M> {
     first: u16,
     count: u16,
     below: M,
-}
-
-// How many pages a window shows, if there are so many below.
-fn shown(first: u16, count: u16, pages: u16) -> u16
-    ensures { result ≡ min count (pages - first) }
-{
-    pages.saturating_sub(first).min(count)
-}
-
-// The page below that a page of a window is, if there are so many below; for one outside, a page outside below.
-fn placed(first: u16, count: u16, pages: u16, page: u16) -> u16
-    ensures { result ≡ place first count pages page }
-{
-    if page < count {
-        first.saturating_add(page).min(pages)
-    } else {
-        pages
-    }
 }
 
 impl<M: Medium> Window<M> {
@@ -48,13 +31,32 @@ impl<M: Medium> Window<M> {
         }
     }
 
+    // How many pages the window shows.
+    fn shown(&self) -> u16
+        ensures { M.Medium.inorder self.now.below → result ≡ min self.now.count (size (M.Medium.means self.now.below) - self.now.first) }
+    {
+        self.below.size().saturating_sub(self.first).min(self.count)
+    }
+
+    // The page below that a page of the window is; for one outside, a page outside below.
+    fn placed(&self, page: u16) -> u16
+        ensures { M.Medium.inorder self.now.below → result ≡ spot M.Medium self.now page }
+    {
+        let pages = self.below.size();
+        if page < self.count {
+            self.first.saturating_add(page).min(pages)
+        } else {
+            pages
+        }
+    }
+
     // Reads below the page that a page of the window is.
     fn read_below(&mut self, page: u16, into: &mut [u8]) -> Result<(), Cause>
         ensures reads { Reads M.Medium self.old.below self.new.below result
             (reads_below M.Medium self.old page (length into.old)) into.old into.new }
         ensures fixed { Fixed self.old self.new }
     {
-        let place = placed(self.first, self.count, self.below.size(), page);
+        let place = self.placed(page);
         self.below.read(place, into)
     }
 
@@ -64,7 +66,7 @@ impl<M: Medium> Window<M> {
             (write_below M.Medium self.old page from.now) }
         ensures fixed { Fixed self.old self.new }
     {
-        let place = placed(self.first, self.count, self.below.size(), page);
+        let place = self.placed(page);
         self.below.write(place, from)
     }
 }
@@ -77,7 +79,7 @@ impl<M: Medium> Medium for Window<M> {
     ghost inorder = { λ w. M.Medium.inorder w.below };
 
     fn size(&self) -> u16 {
-        shown(self.first, self.count, self.below.size())
+        self.shown()
     }
 
     fn read(&mut self, page: u16, into: &mut [u8]) -> Result<(), Cause>
