@@ -1,4 +1,3 @@
-pub mod Below
 pub mod Buffer
 pub mod Copies
 pub mod Window

@@ -2,8 +2,7 @@ ghost use Rattle.std.specs.Prelude.{◌≡◌, ◌-◌, min, length};
 ghost use Rattle.medium.specs.Meaning.{size};
 ghost use Rattle.medium.specs.Outcome.{Gives};
 ghost use Rattle.medium.specs.Rules.{reads, filled, plainly, write, relit};
-ghost use Rattle.layers.specs.Below.{Reads, Writes};
-ghost use Rattle.layers.specs.Window.{view, spot, reads_below, write_below, Fixed};
+ghost use Rattle.layers.specs.Window.{view, spot, write_below, Fixed};
 
 use medium::{Cause, Medium};
 
@@ -31,13 +30,6 @@ impl<M: Medium> Window<M> {
         }
     }
 
-    // How many pages the window shows.
-    fn shown(&self) -> u16
-        ensures { M.Medium.inorder self.now.below → result ≡ min self.now.count (size (M.Medium.means self.now.below) - self.now.first) }
-    {
-        self.below.size().saturating_sub(self.first).min(self.count)
-    }
-
     // The page below that a page of the window is; for one outside, a page outside below.
     fn placed(&self, page: u16) -> u16
         ensures { M.Medium.inorder self.now.below → result ≡ spot M.Medium self.now page }
@@ -49,26 +41,6 @@ impl<M: Medium> Window<M> {
             pages
         }
     }
-
-    // Reads below the page that a page of the window is.
-    fn read_below(&mut self, page: u16, into: &mut [u8]) -> Result<(), Cause>
-        ensures reads { Reads M.Medium self.old.below self.new.below result
-            (reads_below M.Medium self.old page (length into.old)) into.old into.new }
-        ensures fixed { Fixed self.old self.new }
-    {
-        let place = self.placed(page);
-        self.below.read(place, into)
-    }
-
-    // Writes below the page that a page of the window is.
-    fn write_below(&mut self, page: u16, from: &[u8]) -> Result<(), Cause>
-        ensures writes { Writes M.Medium self.old.below self.new.below result
-            (write_below M.Medium self.old page from.now) }
-        ensures fixed { Fixed self.old self.new }
-    {
-        let place = self.placed(page);
-        self.below.write(place, from)
-    }
 }
 
 // A window is in order if the medium below is. Besides what a medium owes, each function says what it does to the
@@ -78,10 +50,12 @@ impl<M: Medium> Medium for Window<M> {
 
     ghost inorder = { λ w. M.Medium.inorder w.below };
 
+    #[tactic(auto, using(crate::proofs::Through::length_part))]
     fn size(&self) -> u16 {
-        self.shown()
+        self.below.size().saturating_sub(self.first).min(self.count)
     }
 
+    #[tactic(auto, using(crate::proofs::Through::reads_through))]
     fn read(&mut self, page: u16, into: &mut [u8]) -> Result<(), Cause>
         ensures keeps { M.Medium.inorder self.old.below
             → M.Medium.inorder self.new.below }
@@ -96,9 +70,11 @@ impl<M: Medium> Medium for Window<M> {
             → M.Medium.means self.new.below ≡ M.Medium.means self.old.below }
         ensures fixed { Fixed self.old self.new }
     {
-        self.read_below(page, into)
+        let place = self.placed(page);
+        self.below.read(place, into)
     }
 
+    #[tactic(auto, using(crate::proofs::Through::write_through))]
     fn write(&mut self, page: u16, from: &[u8]) -> Result<(), Cause>
         ensures keeps { M.Medium.inorder self.old.below
             → M.Medium.inorder self.new.below }
@@ -110,7 +86,8 @@ impl<M: Medium> Medium for Window<M> {
             (M.Medium.means self.new.below) }
         ensures fixed { Fixed self.old self.new }
     {
-        self.write_below(page, from)
+        let place = self.placed(page);
+        self.below.write(place, from)
     }
 
     fn relight(&mut self, charge: u32)
