@@ -5,7 +5,7 @@ use arrayvec::ArrayVec;
 use medium::{Cause, PAGE};
 
 // A copy of a page.
-#[derive(Clone, Copy, Default, Drop)]
+#[derive(Clone, Copy, Default)]
 pub struct Sheet {
     page: u16,
     pub bytes: [u8; PAGE],
