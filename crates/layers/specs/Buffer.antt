@@ -1,5 +1,5 @@
 -- When a read buffer is in order, and what a read finds in it.
-use Rattle.std.specs.Prelude.{◌≡◌, ℕ, true, cond, Some, None, Ok, Option, Result, ◌==◌}
+use Rattle.std.specs.Prelude.{◌≡◌, ℕ, true, cond, All, Some, None, Ok, Option, Result, ◌==◌}
 use Rattle.medium.specs.declared.Cause.{Cause}
 use Rattle.medium.specs.declared.Medium.{Ghosts}
 use Rattle.medium.specs.Meaning.{Bytes, Meaning, page}
@@ -10,11 +10,11 @@ use Rattle.layers.specs.declared.read_buffer.ReadBuffer.{ReadBuffer}
 use Rattle.layers.specs.Copies.{found}
 
 -- A copy agrees with a medium that is lit and has that page with these bytes.
-abbrev pub Agrees : Meaning → Option Sheet → Type 0
-Agrees m copy = (s : Sheet) → copy ≡ Some s → (m.lit ≡ true) × (page m s.page ≡ Some s.bytes)
+abbrev pub Agrees : Meaning → Sheet → Type 0
+Agrees m s = (m.lit ≡ true) × (page m s.page ≡ Some s.bytes)
 
 abbrev pub Agreed : Meaning → Copies → Type 0
-Agreed m cs = Agrees m cs.first × Agrees m cs.second × Agrees m cs.third × Agrees m cs.fourth
+Agreed m cs = All (Agrees m) cs.sheets.items
 
 -- What a read of page i into n bytes finds, in the copy of the page or else in the medium.
 abbrev pub copy_or_reads : Option Sheet → Meaning → ℕ → ℕ → Result Bytes Cause

@@ -1,5 +1,6 @@
 -- The copies that a read buffer keeps of the pages last read or written, the newest first.
-use Rattle.std.specs.Prelude.{ℕ, cond, length, Some, None, Ok, Err, Option, Result, ◌==◌}
+use Rattle.std.specs.Prelude.{ℕ, cond, not, List, [], ◌∷◌, length, take, filter, Ok, Err, Option, Result, ◌==◌}
+use Rattle.std.specs.List.{find}
 use Rattle.medium.specs.declared.Cause.{Cause}
 use Rattle.medium.specs.declared.Cause.TheVariants.{Dark, Outside, Length, Unreadable}
 use Rattle.medium.specs.Meaning.{Bytes}
@@ -10,44 +11,24 @@ use Rattle.layers.specs.declared.copies.Copies.{Copies}
 abbrev pub sheet_of : ℕ → Bytes → Sheet
 sheet_of i bs = record { page = i; bytes = bs }
 
--- Four places, each with a copy or empty.
-abbrev pub places : Option Sheet → Option Sheet → Option Sheet → Option Sheet → Copies
-places a b c d = record { first = a; second = b; third = c; fourth = d }
+-- The copies, from the newest on.
+abbrev pub listed : List Sheet → Copies
+listed ss = record { sheets = record { items = ss } }
 
 abbrev pub none : Copies
-none = places None None None None
-
--- What a place has, if it is a copy of page i.
-abbrev pub only : ℕ → Option Sheet → Option Sheet
-only i None = None
-only i (Some s) = cond (s.page == i) (Some s) None
-
--- What a place has, if it is a copy of another page.
-abbrev pub other : ℕ → Option Sheet → Option Sheet
-other i None = None
-other i (Some s) = cond (s.page == i) None (Some s)
-
-abbrev pub or_else : Option Sheet → Option Sheet → Option Sheet
-or_else (Some s) o = Some s
-or_else None o = o
+none = listed []
 
 -- The copy of page i.
 abbrev pub found : ℕ → Copies → Option Sheet
-found i cs =
-    or_else (only i cs.first) (or_else (only i cs.second) (or_else (only i cs.third) (only i cs.fourth)))
+found i cs = find (λ s. s.page == i) cs.sheets.items
 
--- A new copy comes first, and the others move on as far as the first empty place; if none is empty, the oldest goes.
-abbrev pub moved : Sheet → Option Sheet → Option Sheet → Option Sheet → Option Sheet → Copies
-moved new None b c d = places (Some new) b c d
-moved new (Some x) None c d = places (Some new) (Some x) c d
-moved new (Some x) (Some y) None d = places (Some new) (Some x) (Some y) d
-moved new (Some x) (Some y) (Some z) d = places (Some new) (Some x) (Some y) (Some z)
+-- The copies of other pages.
+abbrev pub others : ℕ → Copies → List Sheet
+others i cs = filter (λ s. not (s.page == i)) cs.sheets.items
 
--- A new copy comes first, and an older one of its page goes.
+-- A new copy comes first, and an older one of its page goes; of five the oldest goes.
 abbrev pub kept : Sheet → Copies → Copies
-kept new cs =
-    moved new (other new.page cs.first) (other new.page cs.second)
-    (other new.page cs.third) (other new.page cs.fourth)
+kept new cs = listed (take 4 (new ∷ others new.page cs))
 
 abbrev pub unless_dark : Cause → Copies → Copies
 unless_dark Dark cs = none

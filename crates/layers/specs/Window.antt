@@ -1,10 +1,10 @@
 -- What a window shows of the medium below.
-use Rattle.std.specs.Prelude.{◌≡◌, ℕ, ◌+◌, min, cond, List, take, drop, Result, nat_lt}
+use Rattle.std.specs.Prelude.{◌≡◌, ℕ, ◌+◌, min, cond, List, take, drop, nat_lt}
 use Rattle.medium.specs.declared.Cause.{Cause}
 use Rattle.medium.specs.declared.Medium.{Ghosts}
 use Rattle.medium.specs.Meaning.{Bytes, Page, Meaning, size}
 use Rattle.medium.specs.Outcome.{Outcome}
-use Rattle.medium.specs.Rules.{reads, write}
+use Rattle.medium.specs.Rules.{write}
 use Rattle.layers.specs.declared.window.Window.{Window}
 
 -- The pages from `first` on, `count` of them where there are as many.
@@ -27,10 +27,7 @@ module _ {M : Type 0} (m : Ghosts M) where
   abbrev pub spot : Window M → ℕ → ℕ
   spot w i = place w.first w.count (size (m.means w.below)) i
 
-  -- A read and a write of page i of a window, as they are below.
-  abbrev pub reads_below : Window M → ℕ → ℕ → Result Bytes Cause
-  reads_below w i n = reads (m.means w.below) (spot w i) n
-
+  -- A write of page i of a window, as it is below.
   abbrev pub write_below : Window M → ℕ → Bytes → Outcome Cause Meaning (Unit {0})
   write_below w i bs = write (m.means w.below) (spot w i) bs
 

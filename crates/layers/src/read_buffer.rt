@@ -41,48 +41,13 @@ impl<M: Medium> ReadBuffer<M> {
         ensures spares { Spares self.old self.new page (length into.old) }
         ensures copies { self.new.copies ≡ self.old.copies }
     {
-        if into.len() == PAGE {
-            if let Some(sheet) = self.copies.find(page) {
+        match self.copies.find(page) {
+            Some(sheet) if into.len() == PAGE => {
                 into.copy_from_slice(&sheet.bytes);
-                return Ok(());
+                Ok(())
             }
+            _ => self.below.read(page, into),
         }
-        self.below.read(page, into)
-    }
-
-    // The same, and the copies are settled.
-    fn fetch(&mut self, page: u16, into: &mut [u8]) -> Result<(), Cause>
-        ensures keeps { M.Medium.inorder self.old.below
-            → M.Medium.inorder self.new.below }
-        ensures answer { M.Medium.inorder self.old.below
-            → result ≡ plainly (finds M.Medium self.old page (length into.old)) }
-        ensures buffer { M.Medium.inorder self.old.below
-            → into.new ≡ filled into.old
-            (finds M.Medium self.old page (length into.old)) }
-        ensures same { M.Medium.inorder self.old.below
-            → M.Medium.means self.new.below ≡ M.Medium.means self.old.below }
-        ensures spares { Spares self.old self.new page (length into.old) }
-        ensures copies { self.new.copies
-            ≡ settled result page into.new self.old.copies }
-    {
-        let answer = self.look(page, into);
-        self.copies.settle(answer, page, into);
-        answer
-    }
-
-    // Writes a page below, and the copies are settled.
-    fn store(&mut self, page: u16, from: &[u8]) -> Result<(), Cause>
-        ensures keeps { M.Medium.inorder self.old.below
-            → M.Medium.inorder self.new.below }
-        ensures gives { M.Medium.inorder self.old.below
-            → Gives (write (M.Medium.means self.old.below) page from.now) result
-            (M.Medium.means self.new.below) }
-        ensures copies { self.new.copies
-            ≡ settled result page from.now self.old.copies }
-    {
-        let answer = self.below.write(page, from);
-        self.copies.settle(answer, page, from);
-        answer
     }
 }
 
@@ -98,6 +63,7 @@ impl<M: Medium> Medium for ReadBuffer<M> {
         self.below.size()
     }
 
+    #[tactic(auto, using(crate::proofs::Agreement::finds_reads, crate::proofs::Agreement::agreed_read))]
     fn read(&mut self, page: u16, into: &mut [u8]) -> Result<(), Cause>
         ensures keeps { InOrder M.Medium self.old → InOrder M.Medium self.new }
         ensures answer { InOrder M.Medium self.old
@@ -111,9 +77,12 @@ impl<M: Medium> Medium for ReadBuffer<M> {
         ensures copies { self.new.copies
             ≡ settled result page into.new self.old.copies }
     {
-        self.fetch(page, into)
+        let answer = self.look(page, into);
+        self.copies.settle(answer, page, into);
+        answer
     }
 
+    #[tactic(auto, using(crate::proofs::Agreement::agreed_written))]
     fn write(&mut self, page: u16, from: &[u8]) -> Result<(), Cause>
         ensures keeps { InOrder M.Medium self.old → InOrder M.Medium self.new }
         ensures gives { InOrder M.Medium self.old
@@ -122,7 +91,9 @@ impl<M: Medium> Medium for ReadBuffer<M> {
         ensures copies { self.new.copies
             ≡ settled result page from.now self.old.copies }
     {
-        self.store(page, from)
+        let answer = self.below.write(page, from);
+        self.copies.settle(answer, page, from);
+        answer
     }
 
     fn relight(&mut self, charge: u32)

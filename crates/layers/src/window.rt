@@ -1,7 +1,8 @@
 ghost use Rattle.std.specs.Prelude.{◌≡◌, ◌-◌, min, length};
+ghost use Rattle.medium.specs.Meaning.{size};
 ghost use Rattle.medium.specs.Outcome.{Gives};
 ghost use Rattle.medium.specs.Rules.{reads, filled, plainly, write, relit};
-ghost use Rattle.layers.specs.Window.{place, view, reads_below, write_below, Fixed};
+ghost use Rattle.layers.specs.Window.{view, spot, write_below, Fixed};
 
 use medium::{Cause, Medium};
 
@@ -11,24 +12,6 @@ pub struct Window<M> {
     first: u16,
     count: u16,
     below: M,
-}
-
-// How many pages a window shows, if there are so many below.
-fn shown(first: u16, count: u16, pages: u16) -> u16
-    ensures { result ≡ min count (pages - first) }
-{
-    pages.saturating_sub(first).min(count)
-}
-
-// The page below that a page of a window is, if there are so many below; for one outside, a page outside below.
-fn placed(first: u16, count: u16, pages: u16, page: u16) -> u16
-    ensures { result ≡ place first count pages page }
-{
-    if page < count {
-        first.saturating_add(page).min(pages)
-    } else {
-        pages
-    }
 }
 
 impl<M: Medium> Window<M> {
@@ -47,34 +30,16 @@ impl<M: Medium> Window<M> {
         }
     }
 
-    // Reads below the page that a page of the window is.
-    fn read_below(&mut self, page: u16, into: &mut [u8]) -> Result<(), Cause>
-        ensures keeps { M.Medium.inorder self.old.below
-            → M.Medium.inorder self.new.below }
-        ensures answer { M.Medium.inorder self.old.below
-            → result ≡ plainly (reads_below M.Medium self.old page (length into.old)) }
-        ensures buffer { M.Medium.inorder self.old.below
-            → into.new ≡ filled into.old
-            (reads_below M.Medium self.old page (length into.old)) }
-        ensures below { M.Medium.inorder self.old.below
-            → M.Medium.means self.new.below ≡ M.Medium.means self.old.below }
-        ensures fixed { Fixed self.old self.new }
+    // The page below that a page of the window is; for one outside, a page outside below.
+    fn placed(&self, page: u16) -> u16
+        ensures { M.Medium.inorder self.now.below → result ≡ spot M.Medium self.now page }
     {
-        let place = placed(self.first, self.count, self.below.size(), page);
-        self.below.read(place, into)
-    }
-
-    // Writes below the page that a page of the window is.
-    fn write_below(&mut self, page: u16, from: &[u8]) -> Result<(), Cause>
-        ensures keeps { M.Medium.inorder self.old.below
-            → M.Medium.inorder self.new.below }
-        ensures below { M.Medium.inorder self.old.below
-            → Gives (write_below M.Medium self.old page from.now) result
-            (M.Medium.means self.new.below) }
-        ensures fixed { Fixed self.old self.new }
-    {
-        let place = placed(self.first, self.count, self.below.size(), page);
-        self.below.write(place, from)
+        let pages = self.below.size();
+        if page < self.count {
+            self.first.saturating_add(page).min(pages)
+        } else {
+            pages
+        }
     }
 }
 
@@ -85,10 +50,12 @@ impl<M: Medium> Medium for Window<M> {
 
     ghost inorder = { λ w. M.Medium.inorder w.below };
 
+    #[tactic(auto, using(crate::proofs::Through::length_part))]
     fn size(&self) -> u16 {
-        shown(self.first, self.count, self.below.size())
+        self.below.size().saturating_sub(self.first).min(self.count)
     }
 
+    #[tactic(auto, using(crate::proofs::Through::reads_through))]
     fn read(&mut self, page: u16, into: &mut [u8]) -> Result<(), Cause>
         ensures keeps { M.Medium.inorder self.old.below
             → M.Medium.inorder self.new.below }
@@ -103,9 +70,11 @@ impl<M: Medium> Medium for Window<M> {
             → M.Medium.means self.new.below ≡ M.Medium.means self.old.below }
         ensures fixed { Fixed self.old self.new }
     {
-        self.read_below(page, into)
+        let place = self.placed(page);
+        self.below.read(place, into)
     }
 
+    #[tactic(auto, using(crate::proofs::Through::write_through))]
     fn write(&mut self, page: u16, from: &[u8]) -> Result<(), Cause>
         ensures keeps { M.Medium.inorder self.old.below
             → M.Medium.inorder self.new.below }
@@ -117,7 +86,8 @@ impl<M: Medium> Medium for Window<M> {
             (M.Medium.means self.new.below) }
         ensures fixed { Fixed self.old self.new }
     {
-        self.write_below(page, from)
+        let place = self.placed(page);
+        self.below.write(place, from)
     }
 
     fn relight(&mut self, charge: u32)

@@ -1,3 +1,3 @@
+pub mod Chain
 pub mod Entry
 pub mod Order
-pub mod Steps

@@ -1,19 +1,21 @@
 -- What the search finds is the best in words of order.
-use Rattle.std.proofs.Common.{◌≡◌, ℕ, zero, suc, ◌+◌, ◌<◌, ◌≤◌, Bool, true, false, cond, ltb, ◌≢◌, List, [], ◌∷◌, Some, None, Option, refl, subst, arith}
+use Rattle.std.proofs.Common.{◌≡◌, ℕ, zero, suc, ◌+◌, ◌<◌, ◌≤◌, Bool, true, false, cond, ltb, ◌≢◌, List, [], ◌∷◌, length, Some, None, Option, IfSome, refl, subst, arith}
+use Rattle.std.specs.List.{slice_get}
+use Rattle.std.proofs.lemmas.Option.{slice_get_within}
 use Rattle.std.proofs.lemmas.Bool.{ltb-true, ltb-false}
 use Rattle.rules.specs.Ranks.{names, better, found, highest, found_at}
 use Rattle.rules.proofs.Best.{names_some, some_names}
-use Rattle.ranked.specs.Best.{at_place, highest_place, BestAt, Best}
+use Rattle.ranked.specs.Best.{highest_place, BestAt, Best}
 
 module _ {R : Type 0} (pg : R → Option ℕ) (rk : R → ℕ) (p : ℕ) where
   -- The same, where the first record is at place o.
   abbrev BestFrom : ℕ → List R → Option (ℕ × R) → Type 0
-  BestFrom o xs None = (j : ℕ) (y : R) → at_place xs j ≡ Some y → pg y ≢ Some p
+  BestFrom o xs None = (j : ℕ) (y : R) → slice_get xs j ≡ Some y → pg y ≢ Some p
   BestFrom o xs (Some (i, x)) = (k : ℕ) × (i ≡ o + k) × BestAt pg rk p xs k x
 
   -- What holds of the first record, and of each after it.
-  each : (P : ℕ → R → Type 0) (x : R) (xs : List R) → P 0 x → ((j : ℕ) (y : R) → at_place xs j ≡ Some y → P (suc j) y)
-      → (j : ℕ) (y : R) → at_place (x ∷ xs) j ≡ Some y → P j y
+  each : (P : ℕ → R → Type 0) (x : R) (xs : List R) → P 0 x → ((j : ℕ) (y : R) → slice_get xs j ≡ Some y → P (suc j) y)
+      → (j : ℕ) (y : R) → slice_get (x ∷ xs) j ≡ Some y → P j y
   each P x xs here there zero y e = let is : x ≡ y = cc in subst (λ (z : R). P 0 z) is here
   each P x xs here there (suc j) y e = there j y e
 
@@ -37,7 +39,7 @@ module _ {R : Type 0} (pg : R → Option ℕ) (rk : R → ℕ) (p : ℕ) where
 
   -- A record of the page in front, at least as high as all after it.
   leads : (o : ℕ) (x : R) (xs : List R) → pg x ≡ Some p
-      → ((j : ℕ) (y : R) → at_place xs j ≡ Some y → pg y ≡ Some p → rk y ≤ rk x) → BestFrom o (x ∷ xs) (Some (o, x))
+      → ((j : ℕ) (y : R) → slice_get xs j ≡ Some y → pg y ≡ Some p → rk y ≤ rk x) → BestFrom o (x ∷ xs) (Some (o, x))
   leads o x xs on all = (
     0,
     omega arith,
@@ -82,3 +84,7 @@ module _ {R : Type 0} (pg : R → Option ℕ) (rk : R → ℕ) (p : ℕ) where
       go : (r : Option (ℕ × R)) → BestFrom 0 xs r → Best pg rk p xs (found_at r)
       go None b = b
       go (Some (i, x)) (k, at, b) = let e : k ≡ i = omega arith in (x, subst (λ (n : ℕ). BestAt pg rk p xs n x) e b)
+
+  pub best_within : (xs : List R) (r : Option ℕ) → Best pg rk p xs r → IfSome r (λ i. i < length xs)
+  best_within xs None b = tt
+  best_within xs (Some i) (x, b) = slice_get_within xs i x b.here

@@ -1,12 +1,6 @@
 -- The lookup, as its answer is a place in a slice, and in words of order.
-use Rattle.std.specs.Prelude.{◌≡◌, ℕ, zero, suc, ◌<◌, ◌≤◌, ◌≢◌, List, [], ◌∷◌, Some, None, Option}
+use Rattle.std.specs.Prelude.{◌≡◌, ℕ, ◌<◌, ◌≤◌, ◌≢◌, List, Some, None, Option, slice_get}
 use Rattle.rules.specs.Ranks.{highest, found_at}
-
--- The record at place i of a list, if there is one.
-abbrev pub at_place : {R : Type 0} → List R → ℕ → Option R
-at_place [] i = None
-at_place (x ∷ xs) zero = Some x
-at_place (x ∷ xs) (suc i) = at_place xs i
 
 module _ {R : Type 0} (page : R → Option ℕ) (rank : R → ℕ) (p : ℕ) where
   -- Where the lookup finds its record.
@@ -15,12 +9,12 @@ module _ {R : Type 0} (page : R → Option ℕ) (rank : R → ℕ) (p : ℕ) whe
 
   -- The record x at place i has the page, none that has it has a higher rank, and none before it one as high.
   pub record BestAt (xs : List R) (i : ℕ) (x : R) : Type 0 where
-    pub here : at_place xs i ≡ Some x
+    pub here : slice_get xs i ≡ Some x
     pub has : page x ≡ Some p
-    pub most : (j : ℕ) (y : R) → at_place xs j ≡ Some y → page y ≡ Some p → rank y ≤ rank x
-    pub first : (j : ℕ) (y : R) → j < i → at_place xs j ≡ Some y → page y ≡ Some p → rank y < rank x
+    pub most : (j : ℕ) (y : R) → slice_get xs j ≡ Some y → page y ≡ Some p → rank y ≤ rank x
+    pub first : (j : ℕ) (y : R) → j < i → slice_get xs j ≡ Some y → page y ≡ Some p → rank y < rank x
 
   -- None has the page, or some record is the best.
   abbrev pub Best : List R → Option ℕ → Type 0
-  Best xs None = (j : ℕ) (y : R) → at_place xs j ≡ Some y → page y ≢ Some p
+  Best xs None = (j : ℕ) (y : R) → slice_get xs j ≡ Some y → page y ≢ Some p
   Best xs (Some i) = (x : R) × BestAt xs i x

@@ -1,10 +1,9 @@
 #![tactic(auto)]
 
-ghost use Rattle.std.specs.Prelude.{◌≡◌, ℕ, ◌<◌, length, IfSome, Option};
+ghost use Rattle.std.specs.Prelude.{◌≡◌, ℕ, ◌<◌, length, IfSome, Option, nat_lt};
 ghost use Rattle.rules.specs.Queue.{page_of, number, found_entry};
 ghost use Rattle.rules.specs.Ranks.{highest as highest_record};
 ghost use Rattle.ranked.specs.Best.{highest_place, Best};
-ghost use Rattle.ranked.specs.Wins.{wins_over};
 
 use rules::table::Card;
 use rules::trailer::Trailer;
@@ -29,17 +28,11 @@ impl Ranked for Option<Trailer> {
     ghost rank = { number };
 
     fn get_page(&self) -> Option<u16> {
-        match self {
-            Some(trailer) => Some(trailer.page),
-            None => None,
-        }
+        self.map(|trailer| trailer.page)
     }
 
     fn get_rank(&self) -> u32 {
-        match self {
-            Some(trailer) => trailer.q,
-            None => 0,
-        }
+        self.map_or(0, |trailer| trailer.q)
     }
 }
 
@@ -58,14 +51,11 @@ impl Ranked for Card {
     }
 }
 
-// Whether a record has the page, and a higher rank than the best so far, if there is one.
-fn wins<R: Ranked>(x: &R, page: u16, best: Option<usize>, top: u32) -> bool
-    ensures { result ≡ wins_over R.Ranked.page R.Ranked.rank page best top x.now }
+// Whether a record has a higher rank than another.
+fn outranks<R: Ranked>(x: &R, other: &R) -> bool
+    ensures { result ≡ nat_lt (R.Ranked.rank other.now) (R.Ranked.rank x.now) }
 {
-    let Some(own) = x.get_page() else {
-        return false;
-    };
-    own == page && (best.is_none() || top < x.get_rank())
+    other.get_rank() < x.get_rank()
 }
 
 // The place of the record of highest rank for a page, the first among equals.
@@ -74,15 +64,12 @@ pub fn highest<R: Ranked>(records: &[R], page: u16) -> Option<usize>
     ensures best { Best R.Ranked.page R.Ranked.rank page records.now result }
     ensures within { IfSome result (λ i. i < length records.now) }
 {
-    let mut best: Option<usize> = None;
-    let mut top: u32 = 0;
-    for (i, x) in records.iter().enumerate() {
-        if wins(x, page, best, top) {
-            best = Some(i);
-            top = x.get_rank();
-        }
-    }
-    best
+    records
+        .iter()
+        .enumerate()
+        .filter(|(_, x)| x.get_page() == Some(page))
+        .reduce(|best, next| if outranks(next.1, best.1) { next } else { best })
+        .map(|(i, _)| i)
 }
 
 // The frame that has a page, by the cards.
@@ -94,11 +81,9 @@ pub fn frame_of(cards: &[Card], page: u16) -> Option<usize>
 }
 
 // The valid entry of a page in a directory: that of its highest number.
+#[tactic(auto, using(crate::proofs::Entry::entry_found))]
 pub fn valid_entry(entries: &[Option<Trailer>], page: u16) -> Option<Trailer>
     ensures { result ≡ found_entry (highest_record page_of number page entries.now) }
 {
-    match highest(entries, page) {
-        Some(i) => entries[i],
-        None => None,
-    }
+    entries[highest(entries, page)?]
 }

@@ -1,42 +1,26 @@
-use Rattle.std.proofs.Common.{◌≡◌, ℕ, None, Option, sym, ◌∙◌, subst, rules}
-use Rattle.std.proofs.lemmas.List.{at_drop_all}
+use Rattle.std.proofs.Common.{◌≡◌, ℕ, Option, map, sym, ap, ◌∙◌, subst, rules}
+use Rattle.rules.specs.Ranks.{found, found_at}
 use Rattle.ranked.specs.Best.{highest_place, Best}
-use Rattle.ranked.proofs.Order.{highest_best}
-use Rattle.ranked.proofs.Steps.{best_from, best_is, taken, passed}
+use Rattle.ranked.proofs.Chain.{has, chain_found}
+use Rattle.ranked.proofs.Order.{highest_best, best_within}
 use Rattle.ranked.proofs.highest.Goals as goal
-use Rattle.ranked.proofs.highest.Goals.{then-wins, else-wins}
-
-pub loop-i-preserved : goal.loop-i-preserved
-loop-i-preserved g c =
-    let m = g.R.Ranked in
-    let x = c.index-records-i in
-    let step = c.loop-i in
-    elim c.if-wins.branch [
-      | then-wins w ↦
-          let e =
-          taken m.page m.rank c.args.page c.args.records.now step.i step.best step.top
-          x.result c.loop-i-test.true x.is (sym w.if-wins.ensures) in
-          (cc, search rules)
-      | else-wins w ↦
-          let e =
-          passed m.page m.rank c.args.page c.args.records.now step.i step.best step.top
-          x.result c.loop-i-test.true x.is (sym w.if-wins.ensures) in
-          (cc, search rules)
-    ]
 
 pub returns : goal.returns
 returns g c =
     let m = g.R.Ranked in
+    let page = c.args.page in
     let xs = c.args.records.now in
-    let end =
-    at_drop_all (best_from m.page m.rank c.args.page c.loop-i.i c.loop-i.best c.loop-i.top)
-    xs c.loop-i.i c.loop-i-test.false in
-    let is : c.loop-i.best ≡ highest_place m.page m.rank c.args.page xs =
-    sym end ∙ c.loop-i.invariant.0 ∙ best_is m.page m.rank c.args.page 0 None 0 xs in
-    record {
-      value = is;
-      best =
-          subst (λ (r : Option ℕ). Best m.page m.rank c.args.page xs r) (sym is)
-          (highest_best m.page m.rank c.args.page xs);
-      within = search rules;
-    }
+    let whole = c.reduce.ensures.runs in
+    let kept = c.filter.ensures.runs whole.0 whole.0.seen whole.1 in
+    let numbered = c.enumerate.ensures.runs kept.0 kept.0.seen kept.1 in
+    let read = c.iter.ensures.runs numbered.1.0 numbered.1.0.seen in
+    let all : map (λ b. b.now) (map (λ x. x.1) kept.0.items) ≡ xs =
+    ap (map (λ b. b.now)) (sym numbered.1.2.0.1) ∙ read.4 (numbered.1.2.1 ∙ kept.2.0 ∙ whole.2) ∙ search rules in
+    let is : c.map.result ≡ highest_place m.page m.rank page xs =
+    search rules
+    ∙ chain_found (λ b. b.now) m.page m.rank page whole.0 kept.0 _ _ numbered.0
+    (kept.2.4 (has (λ b. b.now) m.page m.rank page) (λ x r f' k. search rules))
+    (λ x y r f' k. search rules) c.reduce.result whole.3
+    ∙ ap (λ ys. found_at (found m.page m.rank page 0 ys)) all in
+    let best = subst (λ (r : Option ℕ). Best m.page m.rank page xs r) (sym is) (highest_best m.page m.rank page xs) in
+    record { value = is; best = best; within = best_within m.page m.rank page xs c.map.result best }
