@@ -1,6 +1,18 @@
+use Rattle.std.proofs.Common.{rules}
 use Rattle.format.specs.Segments.{ends}
 use Rattle.format.proofs.ending.ending_of.Goals as goal
 
 pub returns : goal.returns
 unfolding ends
-returns c = c.sixteen_of.ensures
+returns c =
+    rw (
+      c.copy_from_slice.ensures.after,
+      c.copy_from_slice-2.ensures.after,
+      c.copy_from_slice-3.ensures.after,
+      c.copy_from_slice-4.ensures.after,
+      c.to_le_bytes.ensures,
+      c.to_le_bytes-2.ensures,
+      c.to_le_bytes-3.ensures,
+      c.to_le_bytes-4.ensures,
+      c.first_of.ensures,
+    ) (search rules)
