@@ -18,10 +18,6 @@ all_said (Some s) = Some (said s)
 abbrev pub ending : ℕ → ℕ → Bytes
 ending last front = le4 last ++ (le4 front ++ (le4 (last - 14) ++ (le2 15 ++ (0 ∷ 2 ∷ []))))
 
--- The same, shut: a proof opens it.
-unfoldable pub ends : ℕ → ℕ → Bytes
-ends last front = ending last front
-
 -- What sixteen bytes say as such.
 abbrev pub ending_in : Bytes → Ending
 ending_in bs =

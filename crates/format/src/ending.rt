@@ -1,14 +1,13 @@
 ghost use Rattle.std.specs.Prelude.{◌≡◌, ◌-◌};
-ghost use Rattle.format.specs.Segments.{ends, ending_in, agrees, front_fits, is_last, seated, ending_fits};
+ghost use Rattle.format.specs.Segments.{ending, ending_in, agrees, front_fits, is_last, seated, ending_fits};
 
 use crate::bytes::chunk;
+use crate::segment::DESCRIBED;
+use crate::trailer::TRAILER;
 use rules::trailer::MOST;
 
-// How many bytes stand behind the entries of a segment.
-pub(crate) const ENDING: usize = 16;
-
 // How many numbers a segment describes.
-const NUMBERS: u16 = 15;
+const NUMBERS: u16 = DESCRIBED as u16;
 
 // The first of them, by the last.
 pub(crate) fn first_of(last: u32) -> u32
@@ -18,10 +17,10 @@ pub(crate) fn first_of(last: u32) -> u32
 }
 
 // The bytes behind the entries of a segment: last, front, first, 15, 0 and 2.
-pub(crate) fn ending_of(last: u32, front: u32) -> [u8; ENDING]
-    ensures { result ≡ ends last front }
+pub(crate) fn ending_of(last: u32, front: u32) -> [u8; TRAILER]
+    ensures { result ≡ ending last front }
 {
-    let mut bytes = [0; ENDING];
+    let mut bytes = [0; TRAILER];
     bytes[0..4].copy_from_slice(&last.to_le_bytes());
     bytes[4..8].copy_from_slice(&front.to_le_bytes());
     bytes[8..12].copy_from_slice(&first_of(last).to_le_bytes());
@@ -41,7 +40,7 @@ pub(crate) struct Ending {
     mark: u8,
 }
 
-pub(crate) fn ending_in(bytes: &[u8; ENDING]) -> Ending
+pub(crate) fn ending_in(bytes: &[u8; TRAILER]) -> Ending
     ensures { result ≡ ending_in bytes.now }
 {
     Ending {

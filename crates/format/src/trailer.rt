@@ -2,12 +2,15 @@ ghost use Rattle.std.specs.Prelude.{◌≡◌};
 ghost use Rattle.rules.specs.Format.{encode, fields, in_range, is_proper, proper};
 
 use crate::bytes::chunk;
+use crate::page::BODY;
+use medium::PAGE;
 use rules::trailer::{MOST, Trailer};
 
 // How many bytes a trailer has.
-pub(crate) const TRAILER: usize = 16;
+pub(crate) const TRAILER: usize = PAGE - BODY;
 
 // The bytes of a trailer: number, back pointer, version, page, 1 if dirty, and 1.
+#[tactic(auto, unfolding(rules::specs::Format::encode))]
 pub(crate) fn bytes_of(trailer: Trailer) -> [u8; TRAILER]
     ensures { result ≡ encode trailer }
 {

@@ -1,7 +1,6 @@
 use Rattle.std.proofs.Common.{refl, ◌∙◌, ap₂, ◌++◌, [], arith, false}
 use Rattle.rules.specs.declared.trailer.Trailer.{Trailer}
 use Rattle.rules.specs.Format.{encode_segment}
-use Rattle.format.specs.Segments.{ends}
 use Rattle.format.proofs.Loops.{joined}
 use Rattle.format.proofs.segment.write_segment.Goals as goal
 
@@ -9,7 +8,7 @@ blank : Trailer
 blank = record { q = 0; back = 0; version = 0; page = 0; dirty = false }
 
 pub returns-clause-done : goal.returns-clause-done
-unfolding encode_segment ends
+unfolding encode_segment
 returns-clause-done c =
     let made = c.map-entries.ensures.items in
     let all = joined c.args.segment.now.entries c.map-entries.result blank (omega arith)
