@@ -1,12 +1,9 @@
 -- The fifteen entries of a segment, one after another.
-use Rattle.std.proofs.Common.{◌≡◌, ℕ, suc, ◌+◌, ◌-◌, ◌*◌, ◌<◌, Bool, true, false, cond, ◌&&◌, eqb, length, get_or, List, [], ◌∷◌, ◌++◌, Some, None, Option, sym, refl, ap, ◌∙◌, ap₂, add-zero, arith}
-use Rattle.std.proofs.lemmas.List.{append-nil, append_assoc}
-use Rattle.medium.specs.Meaning.{Bytes, Meaning}
+use Rattle.std.proofs.Common.{◌≡◌, ℕ, suc, ◌+◌, ◌-◌, ◌*◌, ◌<◌, Bool, true, false, cond, ◌&&◌, eqb, length, get_or, List, [], ◌∷◌, ◌++◌, Some, None, Option, refl, ap, ◌∙◌, ap₂, arith}
+use Rattle.medium.specs.Meaning.{Bytes}
 use Rattle.rules.specs.declared.trailer.Trailer.{Trailer}
 use Rattle.std.specs.List.{flat_map}
-use Rattle.rules.specs.Format.{encode, encode_all, fields, is_proper, described, pushed, of4}
-use Rattle.rules.specs.Queue.{groups}
-use Rattle.rules.specs.Recovery.{segment_in, with_entries}
+use Rattle.rules.specs.Format.{encode, encode_all, fields, is_proper, described, pushed}
 use Rattle.format.specs.Segments.{entry_at, entries_left}
 
 -- Read: what was read before, and what is left.

@@ -1,8 +1,8 @@
 -- Pages with a trailer.
-use Rattle.std.specs.Prelude.{ℕ, Bool, cond, ◌&&◌, [], ◌∷◌, ◌++◌, length, drop, None, Option, ◌==◌}
+use Rattle.std.specs.Prelude.{ℕ, Bool, cond, ◌&&◌, length, drop, None, Option, ◌==◌}
 use Rattle.medium.specs.Meaning.{Bytes}
 use Rattle.rules.specs.declared.trailer.Trailer.{Trailer}
-use Rattle.rules.specs.Format.{le2, le4, encode, proper}
+use Rattle.rules.specs.Format.{encode, proper}
 use Rattle.rules.specs.Steps.{same}
 
 -- A page has 256 bytes.

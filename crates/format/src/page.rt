@@ -45,6 +45,7 @@ pub fn read_trailer(page: &[u8], pages: u16) -> Option<Trailer>
 }
 
 // Whether a page has 256 bytes, and the last sixteen are the entry's.
+#[tactic(auto, using(crate::proofs::Places::compared))]
 pub fn is_like(page: &[u8], entry: &Trailer) -> bool
     ensures { result ≡ is_like page.now entry.now }
 {

@@ -1,4 +1,4 @@
-use Rattle.std.proofs.Common.{sym, ap, ◌∙◌}
+use Rattle.std.proofs.Common.{ap, ◌∙◌}
 use Rattle.rules.specs.Format.{proper}
 use Rattle.format.proofs.Places.{proper_behind}
 use Rattle.format.proofs.page.read_trailer.Goals as goal

@@ -16,5 +16,5 @@ returns-clause-done c =
     λ l. (
       refl,
       ap₂ ◌++◌ (c.copy_from_slice.ensures.after ∙ c.as_flattened.ensures.value ∙ all)
-      (c.copy_from_slice-2.ensures.after ∙ c.ending_of.ensures),
+          (c.copy_from_slice-2.ensures.after ∙ c.ending_of.ensures),
     )
