@@ -29,7 +29,7 @@ pub(crate) fn ending_of(last: u32, front: u32) -> [u8; TRAILER]
     bytes
 }
 
-// What the bytes behind the entries say.
+// What stands behind the entries: the numbers of the segment, and what else is always there.
 #[derive(Clone, Copy)]
 pub(crate) struct Ending {
     pub(crate) last: u32,
@@ -38,19 +38,6 @@ pub(crate) struct Ending {
     count: u16,
     zero: u8,
     mark: u8,
-}
-
-pub(crate) fn ending_in(bytes: &[u8; TRAILER]) -> Ending
-    ensures { result ≡ ending_in bytes.now }
-{
-    Ending {
-        last: u32::from_le_bytes(chunk(bytes, 0)),
-        front: u32::from_le_bytes(chunk(bytes, 4)),
-        first: u32::from_le_bytes(chunk(bytes, 8)),
-        count: u16::from_le_bytes(chunk(bytes, 12)),
-        zero: bytes[14],
-        mark: bytes[15],
-    }
 }
 
 // Whether a number is the last of a segment.
@@ -73,10 +60,23 @@ fn front_fits(groups: u16, last: u32, front: u32) -> bool
     ensures { result ≡ front_fits groups last front }
 {
     let frames = u32::from(NUMBERS) * u32::from(groups);
-    (1..=last).contains(&front) && last - front < frames.saturating_sub(1)
+    (1..=last).contains(&front) && last - front + 1 < frames
 }
 
 impl Ending {
+    pub(crate) fn read(bytes: &[u8; TRAILER]) -> Ending
+        ensures { result ≡ ending_in bytes.now }
+    {
+        Ending {
+            last: u32::from_le_bytes(chunk(bytes, 0)),
+            front: u32::from_le_bytes(chunk(bytes, 4)),
+            first: u32::from_le_bytes(chunk(bytes, 8)),
+            count: u16::from_le_bytes(chunk(bytes, 12)),
+            zero: bytes[14],
+            mark: bytes[15],
+        }
+    }
+
     // Whether what stands behind last and front agrees with them.
     fn agrees(&self) -> bool
         ensures { result ≡ agrees self.now }

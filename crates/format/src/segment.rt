@@ -6,7 +6,7 @@ ghost use Rattle.rules.specs.Queue.{groups as groups_of};
 ghost use Rattle.rules.specs.Recovery.{segment_in};
 ghost use Rattle.format.specs.Segments.{said, all_said, segment_at};
 
-use crate::ending::{Ending, ending_in, ending_of, first_of};
+use crate::ending::{Ending, ending_of, first_of};
 use crate::entries::entries_in;
 use crate::page::{BODY, parts};
 use crate::trailer::bytes_of;
@@ -73,5 +73,5 @@ pub fn read_segment(page: &[u8], groups: u16, place: u16, pages: u16) -> Option<
     ensures most { IfSome result (λ s. s.last ≤ 4000000000) }
 {
     let (entries, ending) = parts(page)?;
-    segment_at(entries, &ending_in(ending), groups, place, pages)
+    segment_at(entries, &Ending::read(ending), groups, place, pages)
 }

@@ -11,6 +11,6 @@ returns-clause-found c =
     let bs = c.args.page.now in
     let (whole, front, behind) = c.in_ok-entries.ensures in
     c.segment_at.ensures.found
-    ∙ ap₂ (segment_at c.args.groups p j) front (c.ending_in.ensures ∙ ap ending_in behind)
+    ∙ ap₂ (segment_at c.args.groups p j) front (c.read.ensures ∙ ap ending_in behind)
     ∙ ap (λ s. segment_at s p j (take 240 bs) (ending_in (drop 240 bs))) (sym is)
     ∙ sym (segment_is m p j bs long)
