@@ -6,7 +6,7 @@ use crate::segment::DESCRIBED;
 use crate::trailer::TRAILER;
 use rules::trailer::MOST;
 
-// How many numbers a segment describes.
+// How many numbers a segment describes, as its bytes say it.
 const NUMBERS: u16 = DESCRIBED as u16;
 
 // The first of them, by the last.

@@ -14,7 +14,7 @@ use medium::PAGE;
 use rules::fault::Refusal;
 use rules::trailer::Trailer;
 
-// The numbers that a segment describes.
+// How many numbers a segment describes.
 pub const DESCRIBED: usize = 15;
 
 // What a segment page says: the last of the fifteen numbers that it describes, the front when it was written, and their
@@ -36,10 +36,10 @@ pub fn write_segment(into: &mut [u8], segment: &Summary) -> Result<(), Refusal>
     if into.len() != PAGE {
         return Err(Refusal::Length);
     }
-    let entries = segment.entries.map(bytes_of);
-    let (front, last) = into.split_at_mut(BODY);
-    front.copy_from_slice(entries.as_flattened());
-    last.copy_from_slice(&ending_of(segment.last, segment.front));
+    let rows = segment.entries.map(bytes_of);
+    let (entries, ending) = into.split_at_mut(BODY);
+    entries.copy_from_slice(rows.as_flattened());
+    ending.copy_from_slice(&ending_of(segment.last, segment.front));
     Ok(())
 }
 

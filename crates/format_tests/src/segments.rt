@@ -50,6 +50,7 @@ pub(crate) fn fifteen() -> Summary {
     }
 }
 
+// A page of these rows.
 fn flat(rows: [[u8; 16]; 16]) -> [u8; 256] {
     let mut page = [0u8; 256];
     page.copy_from_slice(rows.as_flattened());

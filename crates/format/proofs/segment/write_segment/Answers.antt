@@ -10,8 +10,8 @@ blank = record { q = 0; back = 0; version = 0; page = 0; dirty = false }
 pub returns-clause-done : goal.returns-clause-done
 unfolding encode_segment
 returns-clause-done c =
-    let made = c.map-entries.ensures.items in
-    let all = joined c.args.segment.now.entries c.map-entries.result blank (omega arith)
+    let made = c.map-rows.ensures.items in
+    let all = joined c.args.segment.now.entries c.map-rows.result blank (omega arith)
     (λ i lt. (made.at i blank [] (omega arith)).2.met) in
     λ l. (
       refl,
