@@ -49,8 +49,5 @@ pub fn read_trailer(page: &[u8], pages: u16) -> Option<Trailer>
 pub fn is_like(page: &[u8], entry: &Trailer) -> bool
     ensures { result ≡ is_like page.now entry.now }
 {
-    let Some((_, last)) = parts(page) else {
-        return false;
-    };
-    *last == bytes_of(*entry)
+    parts(page).is_some_and(|(_, last)| *last == bytes_of(*entry))
 }
