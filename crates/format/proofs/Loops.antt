@@ -1,18 +1,10 @@
 -- The fifteen entries of a segment, one after another.
-use Rattle.std.proofs.Common.{◌≡◌, ℕ, suc, ◌+◌, ◌-◌, ◌*◌, ◌<◌, Bool, true, false, cond, ◌&&◌, eqb, List, [], ◌∷◌, ◌++◌, Some, None, Option, sym, refl, ap, ◌∙◌, ap₂, add-zero, arith}
-use Rattle.std.proofs.lemmas.List.{append-nil, append_assoc}
-use Rattle.medium.specs.Meaning.{Bytes, Meaning}
+use Rattle.std.proofs.Common.{◌≡◌, ℕ, suc, ◌+◌, ◌-◌, ◌*◌, ◌<◌, Bool, true, false, cond, ◌&&◌, eqb, length, get_or, List, [], ◌∷◌, ◌++◌, Some, None, Option, refl, ap, ◌∙◌, ap₂, arith}
+use Rattle.medium.specs.Meaning.{Bytes}
 use Rattle.rules.specs.declared.trailer.Trailer.{Trailer}
-use Rattle.rules.specs.Format.{encode, encode_all, fields, is_proper, described, pushed, of4}
-use Rattle.rules.specs.Queue.{groups}
-use Rattle.rules.specs.Recovery.{segment_in, with_entries}
-use Rattle.format.specs.Segments.{entry_at, entries_left, segment_at, segment_fits}
-
--- Written: one more.
-pub all_more : (ts : List Trailer) (t : Trailer) → encode_all (ts ++ (t ∷ [])) ≡ encode_all ts ++ encode t
-all_more [] t = append-nil (encode t)
-all_more (s ∷ ts) t =
-    ap (λ bs. encode s ++ bs) (all_more ts t) ∙ sym (append_assoc (encode s) (encode_all ts) (encode t))
+use Rattle.std.specs.List.{flat_map}
+use Rattle.rules.specs.Format.{encode, encode_all, fields, is_proper, described, pushed}
+use Rattle.format.specs.Segments.{entry_at, entries_left}
 
 -- Read: what was read before, and what is left.
 abbrev pub before : List Trailer → Option (List Trailer) → Option (List Trailer)
@@ -59,9 +51,11 @@ pub left_none : (p : ℕ) (bs : Bytes) (q : ℕ) → entries_left p bs q 15 ≡ 
 unfolding entries_left
 left_none p bs q = refl
 
--- The segment as the rules read it.
-pub segment_is : (m : Meaning) (p j : ℕ) (bs : Bytes) → segment_in m p j bs ≡ segment_at (groups m) p j bs
-unfolding entries_left
-segment_is m p j bs =
-    ap (λ q. cond (segment_fits (groups m) j bs) (with_entries bs (described p bs 15 0 q)) None)
-    (sym (add-zero (of4 bs 240 - 14)))
+-- Written: the bytes of one after another.
+pub joined : (ts : List Trailer) (rows : List Bytes) (t : Trailer) → length rows ≡ length ts
+    → ((i : ℕ) → i < length ts → get_or rows i [] ≡ encode (get_or ts i t)) → flat_map (λ row. row) rows ≡ encode_all ts
+joined [] [] t long each = refl
+joined [] (row ∷ rows) t long each = absurd (omega arith)
+joined (u ∷ ts) [] t long each = absurd (omega arith)
+joined (u ∷ ts) (row ∷ rows) t long each =
+    ap₂ ◌++◌ (each 0 (omega arith)) (joined ts rows t (omega arith) (λ i lt. each (suc i) (omega arith)))

@@ -1,5 +1,5 @@
 -- What is written is read back.
-use Rattle.std.proofs.Common.{◌≡◌, ℕ, ◌+◌, ◌-◌, ◌/◌, ◌%◌, ◌≤◌, max, true, cond, eqb, List, [], ◌∷◌, ◌++◌, length, get_or, Some, None, sym, refl, ap, ◌∙◌, subst, ap₂, zero-add, arith}
+use Rattle.std.proofs.Common.{◌≡◌, ℕ, ◌+◌, ◌-◌, ◌/◌, ◌%◌, ◌≤◌, max, true, cond, eqb, List, [], ◌∷◌, ◌++◌, length, get_or, take, Some, None, sym, refl, ap, ◌∙◌, subst, ap₂, zero-add, arith}
 use Rattle.std.proofs.lemmas.List.{take_at, length-append, append_assoc}
 use Rattle.std.proofs.lemmas.Bool.{and_from, le-leb, eq-eqb}
 use Rattle.medium.specs.Meaning.{Bytes, Meaning}
@@ -11,7 +11,7 @@ use Rattle.rules.specs.Recovery.{is_segment, segment_in, with_entries}
 use Rattle.rules.proofs.Invariant.{Good}
 use Rattle.rules.proofs.Codec.{At, at_part, at_end, at_of4, at_of2, of_le4, length_encode, fields_at, proper_at}
 use Rattle.rules.proofs.Bytes.{length_all}
-use Rattle.format.specs.RoundTrip.{Proper, Numbered, Seated, PageReadsBack, SegmentReadsBack, TrailersDiffer}
+use Rattle.format.specs.RoundTrip.{Proper, Numbered, Seated, SegmentReadsBack, TrailersDiffer}
 use Rattle.format.specs.Segments.{ending}
 
 good : (p : ℕ) (t : Trailer) → Proper p t → Good p t
@@ -28,9 +28,12 @@ module _ (p : ℕ) (few : p ≤ 240) (t : Trailer) (is : Proper p t) (bs : Bytes
   found : proper p bs o ≡ Some t
   found = ap (λ b. cond b (Some (fields bs o)) None) sound ∙ ap Some read
 
-pub page_reads_back : PageReadsBack
-page_reads_back p body t few long is =
-    (found p few t is (body ++ encode t) 240 (at_end body (encode t) 240 long), take_at body (encode t) 240 long)
+pub trailer_read_back : (p : ℕ) (body : Bytes) (t : Trailer) → p ≤ 240 → length body ≡ 240 → Proper p t
+    → proper p (body ++ encode t) 240 ≡ Some t
+trailer_read_back p body t few long is = found p few t is (body ++ encode t) 240 (at_end body (encode t) 240 long)
+
+pub body_read_back : (body : Bytes) (t : Trailer) → length body ≡ 240 → take 240 (body ++ encode t) ≡ body
+body_read_back body t long = take_at body (encode t) 240 long
 
 alone : (t : Trailer) → At (encode t) 0 (encode t)
 alone t i lt = ap (λ k. get_or (encode t) k 0) (zero-add i)

@@ -1,13 +1,9 @@
--- The bytes of a trailer, and pages with one.
-use Rattle.std.specs.Prelude.{ℕ, Bool, cond, ◌&&◌, [], ◌∷◌, ◌++◌, length, drop, None, Option, ◌==◌}
+-- Pages with a trailer.
+use Rattle.std.specs.Prelude.{ℕ, Bool, cond, ◌&&◌, length, drop, None, Option, ◌==◌}
 use Rattle.medium.specs.Meaning.{Bytes}
 use Rattle.rules.specs.declared.trailer.Trailer.{Trailer}
-use Rattle.rules.specs.Format.{le2, le4, encode, proper}
+use Rattle.rules.specs.Format.{encode, proper}
 use Rattle.rules.specs.Steps.{same}
-
--- The sixteen bytes of a trailer: `encode` written out.
-abbrev pub sixteen : Trailer → Bytes
-sixteen t = le4 t.q ++ (le4 t.back ++ (le4 t.version ++ (le2 t.page ++ (cond t.dirty 1 0 ∷ 1 ∷ []))))
 
 -- A page has 256 bytes.
 abbrev pub is_page : Bytes → Bool

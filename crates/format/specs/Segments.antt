@@ -3,7 +3,7 @@ use Rattle.std.specs.Prelude.{ℕ, ◌+◌, ◌-◌, ◌*◌, ◌/◌, ◌%◌, 
 use Rattle.medium.specs.Meaning.{Bytes}
 use Rattle.rules.specs.declared.trailer.Trailer.{Trailer}
 use Rattle.rules.specs.Format.{Segment, le2, le4, of2, of4, most, fields, is_proper, described}
-use Rattle.rules.specs.Recovery.{with_entries}
+use Rattle.format.specs.declared.ending.Ending.{Ending}
 use Rattle.format.specs.declared.segment.Summary.{Summary}
 
 -- What a summary says, as a segment.
@@ -18,33 +18,34 @@ all_said (Some s) = Some (said s)
 abbrev pub ending : ℕ → ℕ → Bytes
 ending last front = le4 last ++ (le4 front ++ (le4 (last - 14) ++ (le2 15 ++ (0 ∷ 2 ∷ []))))
 
--- The same, shut: a proof opens it.
-unfoldable pub ends : ℕ → ℕ → Bytes
-ends last front = ending last front
+-- What sixteen bytes say as such.
+abbrev pub ending_in : Bytes → Ending
+ending_in bs =
+    record {
+      last = of4 bs 0;
+      front = of4 bs 4;
+      first = of4 bs 8;
+      count = of2 bs 12;
+      zero = slice_index bs 14;
+      mark = slice_index bs 15;
+    }
 
--- The tests of `is_segment` for a flash of s groups, in parts: of the front, of the last sixteen bytes, of the place;
--- and all.
-abbrev pub front_fits : ℕ → ℕ → ℕ → Bool
-front_fits s last front = nat_le (max 1 (last + 2 - 15 * s)) front && nat_le front last
-
-abbrev pub ending_fits : ℕ → ℕ → Bytes → Bool
-ending_fits s last bs =
-    (of4 bs 248 == last - 14)
-    && (of2 bs 252 == 15
-    && (slice_index bs 254 == 0
-    && (slice_index bs 255 == 2
-    && front_fits s last (of4 bs 244))))
+-- The tests of `is_segment` for a flash of s groups, in parts: of the last number, of its place, of what agrees with it,
+-- of the front; and all.
+abbrev pub is_last : ℕ → Bool
+is_last n = nat_le 15 n && (nat_le n most && n % 15 == 0)
 
 abbrev pub seated : ℕ → ℕ → ℕ → Bool
 seated s j last = 15 * s + (last / 15 - 1) % (s + 1) == 15 * s + j
 
-abbrev pub segment_fits : ℕ → ℕ → Bytes → Bool
-segment_fits s j bs =
-    nat_le 15 (of4 bs 240)
-    && (nat_le (of4 bs 240) most
-    && (of4 bs 240 % 15 == 0
-    && (seated s j (of4 bs 240)
-    && ending_fits s (of4 bs 240) bs)))
+abbrev pub agrees : Ending → Bool
+agrees e = (e.first == e.last - 14) && (e.count == 15 && (e.zero == 0 && e.mark == 2))
+
+abbrev pub front_fits : ℕ → ℕ → ℕ → Bool
+front_fits s last front = nat_le (max 1 (last + 2 - 15 * s)) front && nat_le front last
+
+abbrev pub ending_fits : ℕ → ℕ → Ending → Bool
+ending_fits s j e = is_last e.last && (seated s j e.last && (agrees e && front_fits s e.last e.front))
 
 -- The i-th entry, if it is proper and has the i-th number from q on.
 abbrev pub entry_at : ℕ → Bytes → ℕ → ℕ → Option Trailer
@@ -55,7 +56,10 @@ entry_at p bs q i =
 unfoldable pub entries_left : ℕ → Bytes → ℕ → ℕ → Option (List Trailer)
 entries_left p bs q i = described p bs (15 - i) (16 * i) (q + i)
 
--- `segment_in` over them.
-abbrev pub segment_at : ℕ → ℕ → ℕ → Bytes → Option Segment
-segment_at s p j bs =
-    cond (segment_fits s j bs) (with_entries bs (entries_left p bs (of4 bs 240 - 14) 0)) None
+-- `segment_in` over the two parts of a page: the entries, and what stands behind them.
+abbrev pub with_entries : Ending → Option (List Trailer) → Option Segment
+with_entries e None = None
+with_entries e (Some ts) = Some (record { last = e.last; front = e.front; entries = ts })
+
+abbrev pub segment_at : ℕ → ℕ → ℕ → Bytes → Ending → Option Segment
+segment_at s p j bs e = cond (ending_fits s j e) (with_entries e (entries_left p bs (e.last - 14) 0)) None

@@ -1,75 +1,99 @@
-ghost use Rattle.std.specs.Prelude.{◌≡◌, ◌≤◌, true, length};
-ghost use Rattle.rules.specs.Format.{of4};
-ghost use Rattle.format.specs.Segments.{ending, ends, front_fits, ending_fits, seated, segment_fits};
+ghost use Rattle.std.specs.Prelude.{◌≡◌, ◌-◌};
+ghost use Rattle.format.specs.Segments.{ending, ending_in, agrees, front_fits, is_last, seated, ending_fits};
 
-use crate::bytes::{bytes4, number2, number4};
-use crate::trailer::MOST;
+use crate::bytes::chunk;
+use crate::segment::DESCRIBED;
+use crate::trailer::TRAILER;
+use rules::trailer::MOST;
 
-// The bytes behind the entries of a segment, one by one: last, front, first, 15, 0 and 2.
-fn sixteen_of(last: u32, front: u32) -> [u8; 16]
+// How many numbers a segment describes, as its bytes say it.
+const NUMBERS: u16 = DESCRIBED as u16;
+
+// The first of them, by the last.
+pub(crate) fn first_of(last: u32) -> u32
+    ensures { result ≡ last - 14 }
+{
+    last.saturating_sub(u32::from(NUMBERS) - 1)
+}
+
+// The bytes behind the entries of a segment: last, front, first, 15, 0 and 2.
+pub(crate) fn ending_of(last: u32, front: u32) -> [u8; TRAILER]
     ensures { result ≡ ending last front }
 {
-    let l = bytes4(last);
-    let f = bytes4(front);
-    let first = bytes4(last.saturating_sub(14));
-    [
-        l[0], l[1], l[2], l[3], f[0], f[1], f[2], f[3], first[0], first[1], first[2], first[3], 15,
-        0, 0, 2,
-    ]
+    let mut bytes = [0; TRAILER];
+    bytes[0..4].copy_from_slice(&last.to_le_bytes());
+    bytes[4..8].copy_from_slice(&front.to_le_bytes());
+    bytes[8..12].copy_from_slice(&first_of(last).to_le_bytes());
+    bytes[12..14].copy_from_slice(&NUMBERS.to_le_bytes());
+    bytes[15] = 2;
+    bytes
 }
 
-// The same, under one name.
-pub(crate) fn ending_of(last: u32, front: u32) -> [u8; 16]
-    ensures { result ≡ ends last front }
-{
-    sixteen_of(last, front)
+// What stands behind the entries: the numbers of the segment, and what else is always there.
+#[derive(Clone, Copy)]
+pub(crate) struct Ending {
+    pub(crate) last: u32,
+    pub(crate) front: u32,
+    first: u32,
+    count: u16,
+    zero: u8,
+    mark: u8,
 }
 
-// Whether the front was live when the segment was written.
-fn front_fits(groups: u16, last: u32, front: u32) -> bool
-    requires { last ≤ 4000000000 }
-    ensures { result ≡ front_fits groups last front }
+// Whether a number is the last of a segment.
+fn is_last(n: u32) -> bool
+    ensures { result ≡ is_last n }
 {
-    let frames = 15 * u32::from(groups);
-    let least = (last + 2).saturating_sub(frames);
-    let from = if least > 1 { least } else { 1 };
-    from <= front && front <= last
-}
-
-// Whether the bytes behind the last number agree with it.
-fn ending_fits(page: &[u8], groups: u16, last: u32) -> bool
-    requires len { length page.now ≡ 256 }
-    requires least { 15 ≤ last }
-    requires most { last ≤ 4000000000 }
-    ensures { result ≡ ending_fits groups last page.now }
-{
-    number4(page, 248) == last - 14
-        && number2(page, 252) == 15
-        && page[254] == 0
-        && page[255] == 2
-        && front_fits(groups, last, number4(page, 244))
+    let numbers = u32::from(NUMBERS);
+    (numbers..=MOST).contains(&n) && n % numbers == 0
 }
 
 // Whether the segment with this last number has this place among the segment pages.
 fn is_seated(groups: u16, place: u16, last: u32) -> bool
-    requires { 15 ≤ last }
     ensures { result ≡ seated groups place last }
 {
-    let frames = 15 * u32::from(groups);
-    frames + (last / 15 - 1) % (u32::from(groups) + 1) == frames + u32::from(place)
+    (last / u32::from(NUMBERS)).saturating_sub(1) % (u32::from(groups) + 1) == u32::from(place)
 }
 
-// Whether the last sixteen bytes are those of a segment in this place.
-pub(crate) fn segment_fits(page: &[u8], groups: u16, place: u16) -> bool
-    requires { length page.now ≡ 256 }
-    ensures exact { result ≡ segment_fits groups place page.now }
-    ensures least { result ≡ true → 15 ≤ of4 page.now 240 }
-    ensures most { result ≡ true → of4 page.now 240 ≤ 4000000000 }
+// Whether the front was live when the segment was written.
+fn front_fits(groups: u16, last: u32, front: u32) -> bool
+    ensures { result ≡ front_fits groups last front }
 {
-    let last = number4(page, 240);
-    last >= 15
-        && last <= MOST
-        && last % 15 == 0
-        && is_seated(groups, place, last)
-        && ending_fits(page, groups, last)
+    let frames = u32::from(NUMBERS) * u32::from(groups);
+    (1..=last).contains(&front) && last - front + 1 < frames
+}
+
+impl Ending {
+    pub(crate) fn read(bytes: &[u8; TRAILER]) -> Ending
+        ensures { result ≡ ending_in bytes.now }
+    {
+        Ending {
+            last: u32::from_le_bytes(chunk(bytes, 0)),
+            front: u32::from_le_bytes(chunk(bytes, 4)),
+            first: u32::from_le_bytes(chunk(bytes, 8)),
+            count: u16::from_le_bytes(chunk(bytes, 12)),
+            zero: bytes[14],
+            mark: bytes[15],
+        }
+    }
+
+    // Whether what stands behind last and front agrees with them.
+    fn agrees(&self) -> bool
+        ensures { result ≡ agrees self.now }
+    {
+        self.first == first_of(self.last)
+            && self.count == NUMBERS
+            && self.zero == 0
+            && self.mark == 2
+    }
+
+    // Whether it is that of a segment in this place.
+    pub(crate) fn fits(&self, groups: u16, place: u16) -> bool
+        ensures { result ≡ ending_fits groups place self.now }
+    {
+        is_last(self.last)
+            && is_seated(groups, place, self.last)
+            && self.agrees()
+            && front_fits(groups, self.last, self.front)
+    }
 }

@@ -1,10 +1,9 @@
-ghost use Rattle.std.specs.Prelude.{◌≡◌, ◌++◌, length, take, None, Ok, Err, ◌≢◌};
+ghost use Rattle.std.specs.Prelude.{◌≡◌, ◌≢◌, ◌++◌, true, false, length, take, drop, MatchOption, Ok, Err};
 ghost use Rattle.rules.specs.declared.fault.Refusal.TheVariants as refusal;
 ghost use Rattle.rules.specs.Format.{encode};
-ghost use Rattle.format.specs.Pages.{trailer_of, is_like};
+ghost use Rattle.format.specs.Pages.{is_page, trailer_of, is_like};
 
-use crate::bytes::{are_same, put};
-use crate::trailer::{bytes_of, trailer_at};
+use crate::trailer::{TRAILER, bytes_of, trailer_in};
 use medium::PAGE;
 use rules::fault::Refusal;
 use rules::trailer::Trailer;
@@ -12,13 +11,13 @@ use rules::trailer::Trailer;
 // A page is a body and a trailer.
 pub const BODY: usize = 240;
 
-fn put_page(into: &mut [u8], body: &[u8], trailer: &Trailer)
-    requires len { length into.old ≡ 256 }
-    requires body { length body.now ≡ 240 }
-    ensures { take 256 into.new ≡ body.now ++ encode trailer.now }
+// The body and the trailer's bytes of a page, if it has 256 bytes.
+pub(crate) fn parts(page: &[u8]) -> Option<(&[u8; BODY], &[u8; TRAILER])>
+    ensures { MatchOption result (is_page page.now ≡ false) (λ p. (is_page page.now ≡ true)
+        × (p.0.now ≡ take 240 page.now) × (p.1.now ≡ drop 240 page.now)) }
 {
-    put(into, 0, BODY, body);
-    put(into, BODY, PAGE, &bytes_of(trailer));
+    let (body, last) = page.split_first_chunk()?;
+    Some((body, last.try_into().ok()?))
 }
 
 // Writes a page of 256 bytes from a body of 240 and a trailer; other lengths are refused, and nothing is written.
@@ -31,7 +30,9 @@ pub fn write_page(into: &mut [u8], body: &[u8], trailer: &Trailer) -> Result<(),
     if into.len() != PAGE || body.len() != BODY {
         return Err(Refusal::Length);
     }
-    put_page(into, body, trailer);
+    let (front, last) = into.split_at_mut(BODY);
+    front.copy_from_slice(body);
+    last.copy_from_slice(&bytes_of(*trailer));
     Ok(())
 }
 
@@ -39,19 +40,14 @@ pub fn write_page(into: &mut [u8], body: &[u8], trailer: &Trailer) -> Result<(),
 pub fn read_trailer(page: &[u8], pages: u16) -> Option<Trailer>
     ensures { result ≡ trailer_of pages page.now }
 {
-    if page.len() != PAGE {
-        return None;
-    }
-    trailer_at(page, BODY, pages)
+    let (_, last) = parts(page)?;
+    trailer_in(last, pages)
 }
 
 // Whether a page has 256 bytes, and the last sixteen are the entry's.
+#[tactic(auto, using(crate::proofs::Places::compared))]
 pub fn is_like(page: &[u8], entry: &Trailer) -> bool
     ensures { result ≡ is_like page.now entry.now }
 {
-    if page.len() != PAGE {
-        return false;
-    }
-    let (_, last) = page.split_at(BODY);
-    are_same(last, &bytes_of(entry))
+    parts(page).is_some_and(|(_, last)| *last == bytes_of(*entry))
 }

@@ -1,39 +1,29 @@
-ghost use Rattle.std.specs.Prelude.{◌≡◌, ◌≤◌, ◌++◌, length, take, IfSome, None, Ok, Err, ◌≢◌};
+ghost use Rattle.std.specs.Prelude.{◌≡◌, ◌≤◌, length, IfSome, None, Ok, Err, ◌≢◌};
 ghost use Rattle.medium.specs.Meaning.{Meaning};
 ghost use Rattle.rules.specs.declared.fault.Refusal.TheVariants as refusal;
-ghost use Rattle.rules.specs.Format.{encode_all, encode_segment};
+ghost use Rattle.rules.specs.Format.{encode_segment};
 ghost use Rattle.rules.specs.Queue.{groups as groups_of};
 ghost use Rattle.rules.specs.Recovery.{segment_in};
-ghost use Rattle.format.specs.Segments.{said, all_said, ends, segment_at};
+ghost use Rattle.format.specs.Segments.{said, all_said, segment_at};
 
-use crate::bytes::{number4, put};
-use crate::ending::{ending_of, segment_fits};
-use crate::entries::{entries_in, put_entries};
-use crate::page::BODY;
+use crate::ending::{Ending, ending_of, first_of};
+use crate::entries::entries_in;
+use crate::page::{BODY, parts};
+use crate::trailer::bytes_of;
 use medium::PAGE;
 use rules::fault::Refusal;
 use rules::trailer::Trailer;
 
-// The numbers that a segment describes.
+// How many numbers a segment describes.
 pub const DESCRIBED: usize = 15;
 
 // What a segment page says: the last of the fifteen numbers that it describes, the front when it was written, and their
 // trailers.
-#[derive(Clone, Copy)]
+#[derive(Clone, Copy, PartialEq, Eq, Debug)]
 pub struct Summary {
     pub last: u32,
     pub front: u32,
     pub entries: [Trailer; DESCRIBED],
-}
-
-fn put_segment(into: &mut [u8], segment: &Summary)
-    requires { length into.old ≡ 256 }
-    ensures { take 256 into.new
-        ≡ encode_all segment.now.entries
-        ++ ends segment.now.last segment.now.front }
-{
-    put_entries(into, &segment.entries);
-    put(into, BODY, PAGE, &ending_of(segment.last, segment.front));
 }
 
 // Writes a segment page of 256 bytes; another length is refused, and nothing is written.
@@ -46,24 +36,31 @@ pub fn write_segment(into: &mut [u8], segment: &Summary) -> Result<(), Refusal>
     if into.len() != PAGE {
         return Err(Refusal::Length);
     }
-    put_segment(into, segment);
+    let rows = segment.entries.map(bytes_of);
+    let (entries, ending) = into.split_at_mut(BODY);
+    entries.copy_from_slice(rows.as_flattened());
+    ending.copy_from_slice(&ending_of(segment.last, segment.front));
     Ok(())
 }
 
-fn segment_at(page: &[u8], groups: u16, place: u16, pages: u16) -> Option<Summary>
-    requires { length page.now ≡ 256 }
-    ensures found { all_said result ≡ segment_at groups pages place page.now }
+// What entries and an ending say for a flash of so many groups, the place of their page, and a disk of so many pages.
+fn segment_at(
+    bytes: &[u8; BODY],
+    ending: &Ending,
+    groups: u16,
+    place: u16,
+    pages: u16,
+) -> Option<Summary>
+    ensures found { all_said result ≡ segment_at groups pages place bytes.now ending.now }
     ensures most { IfSome result (λ s. s.last ≤ 4000000000) }
 {
-    if !segment_fits(page, groups, place) {
+    if !ending.fits(groups, place) {
         return None;
     }
-    let last = number4(page, BODY);
-    let entries = entries_in(page, last - 14, pages)?;
     Some(Summary {
-        last,
-        front: number4(page, 244),
-        entries,
+        last: ending.last,
+        front: ending.front,
+        entries: entries_in(bytes, first_of(ending.last), pages)?,
     })
 }
 
@@ -75,8 +72,6 @@ pub fn read_segment(page: &[u8], groups: u16, place: u16, pages: u16) -> Option<
     ensures none { (length page.now ≢ 256) → result ≡ None }
     ensures most { IfSome result (λ s. s.last ≤ 4000000000) }
 {
-    if page.len() != PAGE {
-        return None;
-    }
-    segment_at(page, groups, place, pages)
+    let (entries, ending) = parts(page)?;
+    segment_at(entries, &Ending::read(ending), groups, place, pages)
 }

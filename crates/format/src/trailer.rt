@@ -1,59 +1,39 @@
-ghost use Rattle.std.specs.Prelude.{◌≡◌, ◌+◌, ◌≤◌, length};
+ghost use Rattle.std.specs.Prelude.{◌≡◌};
 ghost use Rattle.rules.specs.Format.{encode, fields, in_range, is_proper, proper};
-ghost use Rattle.format.specs.Pages.{sixteen};
 
-use crate::bytes::{bytes2, bytes4, number2, number4};
-use rules::trailer::Trailer;
+use crate::bytes::chunk;
+use crate::page::BODY;
+use medium::PAGE;
+use rules::trailer::{MOST, Trailer};
 
-// The highest sequence number and version.
-pub(crate) const MOST: u32 = 4_000_000_000;
+// How many bytes a trailer has.
+pub(crate) const TRAILER: usize = PAGE - BODY;
 
-// The bytes of a trailer, one by one: number, back pointer, version, page, 1 if dirty, and 1.
-fn sixteen_of(trailer: &Trailer) -> [u8; 16]
-    ensures { result ≡ sixteen trailer.now }
+// The bytes of a trailer: number, back pointer, version, page, 1 if dirty, and 1.
+#[tactic(auto, unfolding(rules::specs::Format::encode))]
+pub(crate) fn bytes_of(trailer: Trailer) -> [u8; TRAILER]
+    ensures { result ≡ encode trailer }
 {
-    let q = bytes4(trailer.q);
-    let back = bytes4(trailer.back);
-    let version = bytes4(trailer.version);
-    let page = bytes2(trailer.page);
-    [
-        q[0],
-        q[1],
-        q[2],
-        q[3],
-        back[0],
-        back[1],
-        back[2],
-        back[3],
-        version[0],
-        version[1],
-        version[2],
-        version[3],
-        page[0],
-        page[1],
-        trailer.dirty as u8,
-        1,
-    ]
+    let mut bytes = [0; TRAILER];
+    bytes[0..4].copy_from_slice(&trailer.q.to_le_bytes());
+    bytes[4..8].copy_from_slice(&trailer.back.to_le_bytes());
+    bytes[8..12].copy_from_slice(&trailer.version.to_le_bytes());
+    bytes[12..14].copy_from_slice(&trailer.page.to_le_bytes());
+    bytes[14] = u8::from(trailer.dirty);
+    bytes[15] = 1;
+    bytes
 }
 
-// The same, as the rules name them.
-pub(crate) fn bytes_of(trailer: &Trailer) -> [u8; 16]
-    ensures { result ≡ encode trailer.now }
-{
-    sixteen_of(trailer)
-}
-
-// The fields of the sixteen bytes at a place, proper or not.
-fn fields_at(bytes: &[u8], at: usize) -> Trailer
-    requires { at + 16 ≤ length bytes.now }
-    ensures { result ≡ fields bytes.now at }
+// The fields of sixteen bytes, proper or not.
+fn fields(bytes: &[u8; TRAILER]) -> Trailer
+    ensures { result ≡ fields bytes.now 0 }
 {
     Trailer {
-        q: number4(bytes, at),
-        back: number4(bytes, at + 4),
-        version: number4(bytes, at + 8),
-        page: number2(bytes, at + 12),
-        dirty: bytes[at + 14] == 1,
+        q: u32::from_le_bytes(chunk(bytes, 0)),
+        back: u32::from_le_bytes(chunk(bytes, 4)),
+        version: u32::from_le_bytes(chunk(bytes, 8)),
+        page: u16::from_le_bytes(chunk(bytes, 12)),
+        dirty: bytes[14] == 1,
     }
 }
 
@@ -61,31 +41,25 @@ fn fields_at(bytes: &[u8], at: usize) -> Trailer
 fn is_number(n: u32) -> bool
     ensures { result ≡ in_range n }
 {
-    n >= 1 && n <= MOST
+    (1..=MOST).contains(&n)
 }
 
 // Whether they are a proper trailer on a disk of so many pages.
-fn is_proper_at(bytes: &[u8], at: usize, pages: u16) -> bool
-    requires { at + 16 ≤ length bytes.now }
-    ensures { result ≡ is_proper pages bytes.now at }
+fn is_proper(bytes: &[u8; TRAILER], pages: u16) -> bool
+    ensures { result ≡ is_proper pages bytes.now 0 }
 {
-    let t = fields_at(bytes, at);
+    let t = fields(bytes);
     is_number(t.q)
         && is_number(t.version)
         && t.back < t.q
         && t.page < pages
-        && bytes[at + 14] <= 1
-        && bytes[at + 15] == 1
+        && bytes[14] <= 1
+        && bytes[15] == 1
 }
 
-// The trailer at a place, if it is proper on a disk of so many pages.
-pub(crate) fn trailer_at(bytes: &[u8], at: usize, pages: u16) -> Option<Trailer>
-    requires { at + 16 ≤ length bytes.now }
-    ensures { result ≡ proper pages bytes.now at }
+// The trailer that they are, if it is proper on a disk of so many pages.
+pub(crate) fn trailer_in(bytes: &[u8; TRAILER], pages: u16) -> Option<Trailer>
+    ensures { result ≡ proper pages bytes.now 0 }
 {
-    if is_proper_at(bytes, at, pages) {
-        Some(fields_at(bytes, at))
-    } else {
-        None
-    }
+    is_proper(bytes, pages).then(|| fields(bytes))
 }

@@ -1,9 +1,8 @@
 // What is found: the highest rank for a page, the first among equals.
-use ranked::{Ranked, frame_of, highest, valid_entry};
+use ranked::{frame_of, highest, valid_entry};
 use rules::table::Card;
 use rules::trailer::Trailer;
 use std::process::Abort;
-use std::test::Fail;
 
 // A record's page and rank.
 type Record = (Option<u16>, u32);
@@ -72,105 +71,49 @@ static ROWS: [Row; 24] = [
 
 // A directory with these records: each entry has its place as its back pointer.
 fn directory(records: [Record; 3]) -> [Option<Trailer>; 3] {
-    let mut entries = [None; 3];
-    for i in 0..3u8 {
-        let (page, q) = records[usize::from(i)];
-        if let Some(page) = page {
-            entries[usize::from(i)] = Some(Trailer {
-                q,
-                back: u32::from(i),
-                version: 100 - u32::from(i),
-                page,
-                dirty: true,
-            });
-        }
-    }
-    entries
+    std::array::from_fn(|i| {
+        let (page, q) = records[i];
+        page.map(|page| Trailer {
+            q,
+            back: i as u32,
+            version: 100 - i as u32,
+            page,
+            dirty: true,
+        })
+    })
 }
 
 // A RAM table with these records; holds rise along it.
 fn table(records: [Record; 3]) -> [Card; 3] {
-    let mut cards = [Card {
-        page: None,
-        version: 0,
-        dirty: false,
-        fdirty: false,
-        hold: 0,
-    }; 3];
-    for i in 0..3u8 {
-        let (page, version) = records[usize::from(i)];
-        cards[usize::from(i)].page = page;
-        cards[usize::from(i)].version = version;
-        cards[usize::from(i)].hold = u32::from(i);
-    }
-    cards
+    std::array::from_fn(|i| {
+        let (page, version) = records[i];
+        Card {
+            page,
+            version,
+            dirty: false,
+            fdirty: false,
+            hold: i as u32,
+        }
+    })
 }
 
 // The first so many records have it there.
-fn is_highest<R: Ranked>(
-    rt: &impl Abort,
-    row: usize,
-    records: &[R],
-    count: usize,
-    page: u16,
-    found: Option<usize>,
-) -> Result<(), Fail> {
-    assert!(rt; count <= records.len());
-    assert_eq!(rt; highest(&records[0..count], page), found, "row {row}");
-    Ok(())
-}
-
-fn is_valid(
-    rt: &impl Abort,
-    row: usize,
-    entries: &[Option<Trailer>; 3],
-    count: usize,
-    page: u16,
-    found: Option<usize>,
-) -> Result<(), Fail> {
-    assert!(rt; count <= 3);
-    let valid = valid_entry(&entries[0..count], page);
-    let Some(place) = found else {
-        assert_eq!(rt; valid, None, "row {row}");
-        return Ok(());
-    };
-    assert!(rt; place < 3);
-    assert_eq!(rt; valid, entries[place], "row {row}");
-    Ok(())
-}
-
-fn is_frame(
-    rt: &impl Abort,
-    row: usize,
-    cards: &[Card; 3],
-    count: usize,
-    page: u16,
-    found: Option<usize>,
-) -> Result<(), Fail> {
-    assert!(rt; count <= 3);
-    assert_eq!(rt; frame_of(&cards[0..count], page), found, "row {row}");
-    Ok(())
-}
-
-fn finds(rt: &impl Abort, i: usize, row: &Row) -> Result<(), Fail> {
+fn finds(rt: &impl Abort, i: usize, row: &Row) {
     let (first, second, third, count, page, found) = *row;
     let records = [first, second, third];
+    assert!(rt; count <= 3);
     let entries = directory(records);
-    is_highest(rt, i, &entries, count, page, found)?;
-    is_valid(rt, i, &entries, count, page, found)?;
+    assert_eq!(rt; highest(&entries[..count], page), found, "row {i}");
+    let valid = found.and_then(|place| *entries.get(place)?);
+    assert_eq!(rt; valid_entry(&entries[..count], page), valid, "row {i}");
     let cards = table(records);
-    is_highest(rt, i, &cards, count, page, found)?;
-    is_frame(rt, i, &cards, count, page, found)
-}
-
-fn all_found(rt: &impl Abort, rows: &[Row]) -> Result<(), Fail> {
-    for (i, row) in rows.iter().enumerate() {
-        finds(rt, i, row)?;
-    }
-    Ok(())
+    assert_eq!(rt; highest(&cards[..count], page), found, "row {i}");
+    assert_eq!(rt; frame_of(&cards[..count], page), found, "row {i}");
 }
 
 #[test]
-fn found(rt: HostRuntime) -> Result<(), Fail> {
-    all_found(&rt, &ROWS)
+fn found(rt: HostRuntime) {
+    for (i, row) in ROWS.iter().enumerate() {
+        finds(&rt, i, row);
+    }
 }

@@ -3,48 +3,27 @@ use crate::bytes::trailer;
 use format::segment::{Summary, read_segment, write_segment};
 use rules::trailer::Trailer;
 use std::process::Abort;
-use std::test::Fail;
 
 // Fifteen trailers up to a last number, of pages 225 to 239.
 fn entries_to(last: u32) -> [Trailer; 15] {
-    let mut entries = [trailer((0, 0, 1, 0, true)); 15];
-    for i in 0..15u16 {
-        let q = last.saturating_sub(14).saturating_add(u32::from(i));
-        entries[usize::from(i)] = trailer((q, 0, 1, 225 + i, true));
-    }
-    entries
+    let first = last.saturating_sub(14);
+    std::array::from_fn(|i| trailer((first.saturating_add(i as u32), 0, 1, 225 + i as u16, true)))
 }
 
 // The segment with this last number and front, written and then read in this place on a disk of so many pages, is read
 // back, or says nothing.
-fn reads(
-    rt: &impl Abort,
-    last: u32,
-    front: u32,
-    groups: u16,
-    place: u16,
-    pages: u16,
-    fits: bool,
-) -> Result<(), Fail> {
-    let entries = entries_to(last);
+fn reads(rt: &impl Abort, last: u32, front: u32, groups: u16, place: u16, pages: u16, fits: bool) {
     let mut page = [5u8; 256];
     let segment = Summary {
         last,
         front,
-        entries,
+        entries: entries_to(last),
     };
     assert_eq!(rt; write_segment(&mut page, &segment), Ok(()));
-    match read_segment(&page, groups, place, pages) {
-        Some(read) => {
-            assert!(rt; fits && read.last == last && read.front == front);
-            assert!(rt; read.entries == entries);
-            Ok(())
-        }
-        None => {
-            assert!(rt; !fits);
-            Ok(())
-        },
-    }
+    assert_eq!(rt;
+        read_segment(&page, groups, place, pages),
+        fits.then_some(segment)
+    );
 }
 
 // The last number, the groups, and the segment's own place.
@@ -63,20 +42,19 @@ static SEATS: [(u32, u16, u16); 12] = [
     (3_999_999_990, 14, 10),
 ];
 
-fn seated(rt: &impl Abort, last: u32, groups: u16, own: u16) -> Result<(), Fail> {
-    for place in 0..=16u16 {
-        reads(rt, last, last, groups, place, 240, place == own)?;
+fn seated(rt: &impl Abort, last: u32, groups: u16, own: u16) {
+    for place in 0..=16 {
+        reads(rt, last, last, groups, place, 240, place == own);
     }
-    reads(rt, last, last, groups, own, 239, false)
+    reads(rt, last, last, groups, own, 239, false);
 }
 
 // It is read in no other place.
 #[test]
-fn places(rt: HostRuntime) -> Result<(), Fail> {
-    for (last, groups, own) in &SEATS {
-        seated(&rt, *last, *groups, *own)?;
+fn places(rt: HostRuntime) {
+    for (last, groups, own) in SEATS {
+        seated(&rt, last, groups, own);
     }
-    Ok(())
 }
 
 // The last number, the groups, the place, and the lowest front: the larger of 1 and last + 2 - 15 groups.
@@ -92,7 +70,7 @@ static FRONTS: [(u32, u16, u16, u32); 9] = [
     (3_999_999_990, 14, 10, 3_999_999_782),
 ];
 
-fn fronted(rt: &impl Abort, last: u32, groups: u16, place: u16, least: u32) -> Result<(), Fail> {
+fn fronted(rt: &impl Abort, last: u32, groups: u16, place: u16, least: u32) {
     let below = least.saturating_sub(1);
     let above = last.saturating_add(1);
     for (front, fits) in [
@@ -102,17 +80,15 @@ fn fronted(rt: &impl Abort, last: u32, groups: u16, place: u16, least: u32) -> R
         (last, true),
         (above, false),
     ] {
-        reads(rt, last, front, groups, place, 240, fits)?;
+        reads(rt, last, front, groups, place, 240, fits);
     }
-    Ok(())
 }
 
 #[test]
-fn fronts(rt: HostRuntime) -> Result<(), Fail> {
-    for (last, groups, place, least) in &FRONTS {
-        fronted(&rt, *last, *groups, *place, *least)?;
+fn fronts(rt: HostRuntime) {
+    for (last, groups, place, least) in FRONTS {
+        fronted(&rt, last, groups, place, least);
     }
-    Ok(())
 }
 
 // Last numbers of no segment, and the groups, in whatever place: none, no multiple of 15, above the highest, no groups.
@@ -130,11 +106,10 @@ static NEVER: [(u32, u16); 10] = [
 ];
 
 #[test]
-fn no_segments(rt: HostRuntime) -> Result<(), Fail> {
-    for (last, groups) in &NEVER {
-        for place in 0..=16u16 {
-            reads(&rt, *last, *last, *groups, place, 240, false)?;
+fn no_segments(rt: HostRuntime) {
+    for (last, groups) in NEVER {
+        for place in 0..=16 {
+            reads(&rt, last, last, groups, place, 240, false);
         }
     }
-    Ok(())
 }

@@ -1,9 +1,7 @@
 // A segment page to the byte, and one byte of it changed.
 use crate::bytes::{Fields, trailer, with};
 use format::segment::{Summary, read_segment, write_segment};
-use rules::trailer::Trailer;
 use std::process::Abort;
-use std::test::Fail;
 
 // The first fifteen numbers, on a disk of 8 pages.
 static FIFTEEN: [Fields; 15] = [
@@ -44,63 +42,56 @@ static ROWS: [[u8; 16]; 16] = [
     [15, 0, 0, 0, 1, 0, 0, 0, 1, 0, 0, 0, 15, 0, 0, 2],
 ];
 
-fn entries() -> [Trailer; 15] {
-    let mut entries = [trailer(FIFTEEN[0]); 15];
-    for i in 0..15usize {
-        entries[i] = trailer(FIFTEEN[i]);
-    }
-    entries
-}
-
 pub(crate) fn fifteen() -> Summary {
     Summary {
         last: 15,
         front: 1,
-        entries: entries(),
+        entries: FIFTEEN.map(trailer),
     }
 }
 
-pub(crate) fn segment_page() -> [u8; 256] {
+// A page of these rows.
+fn flat(rows: [[u8; 16]; 16]) -> [u8; 256] {
     let mut page = [0u8; 256];
-    for i in 0..16usize {
-        for k in 0..16usize {
-            page[16 * i + k] = ROWS[i][k];
-        }
-    }
+    page.copy_from_slice(rows.as_flattened());
     page
 }
 
+pub(crate) fn segment_page() -> [u8; 256] {
+    flat(ROWS)
+}
+
 #[test]
-fn to_the_byte(rt: HostRuntime) -> Result<(), Fail> {
+fn to_the_byte(rt: HostRuntime) {
     let mut into = [5u8; 256];
     assert_eq!(rt; write_segment(&mut into, &fifteen()), Ok(()));
     assert!(rt; into == segment_page());
-    let read = read_segment(&into, 2, 0, 8).ok_or("nothing read")?;
-    assert!(rt; read.last == 15 && read.front == 1);
-    assert!(rt; read.entries == entries());
-    Ok(())
+    assert_eq!(rt; read_segment(&into, 2, 0, 8), Some(fifteen()));
 }
 
 // A changed byte at a place of the last sixteen: only the front may be another, from 1 to 15.
-fn ending_changed(rt: &impl Abort, place: usize) -> Result<(), Fail> {
+fn ending_changed(rt: &impl Abort, place: usize) {
     let whole = segment_page();
     for value in 0..=255u8 {
         let changed = with(&whole, place, value);
-        let fits = changed == whole || place == 244 && value >= 1 && value <= 15;
-        match read_segment(&changed, 2, 0, 8) {
-            Some(read) => assert!(rt; fits && read.front == u32::from(changed[244]), "{}", value),
-            None => assert!(rt; !fits, "{}", value),
-        }
+        let fits = changed == whole || place == 244 && (1..=15).contains(&value);
+        let read = Summary {
+            front: u32::from(changed[244]),
+            ..fifteen()
+        };
+        assert_eq!(rt;
+            read_segment(&changed, 2, 0, 8),
+            fits.then_some(read),
+            "{value}"
+        );
     }
-    Ok(())
 }
 
 #[test]
-fn every_ending_byte(rt: HostRuntime) -> Result<(), Fail> {
-    for place in 240..256usize {
-        ending_changed(&rt, place)?;
+fn every_ending_byte(rt: HostRuntime) {
+    for place in 240..256 {
+        ending_changed(&rt, place);
     }
-    Ok(())
 }
 
 // A byte of an entry, its new value, and whether the segment is still one.
@@ -128,57 +119,49 @@ static CHANGED: [(usize, u8, bool); 20] = [
 ];
 
 // A segment that is read is written again as it was.
-fn reads(rt: &impl Abort, page: &[u8; 256], fits: bool) -> Result<(), Fail> {
+fn reads(rt: &impl Abort, page: &[u8; 256], fits: bool) {
     let Some(read) = read_segment(page, 2, 0, 8) else {
         assert!(rt; !fits);
-        return Ok(());
+        return;
     };
     assert!(rt; fits);
     let mut again = [5u8; 256];
     assert_eq!(rt; write_segment(&mut again, &read), Ok(()));
     assert!(rt; again == *page);
-    Ok(())
 }
 
-fn entry_changed(rt: &impl Abort, entry: usize) -> Result<(), Fail> {
+fn entry_changed(rt: &impl Abort, entry: usize) {
     assert!(rt; entry < 15);
     let whole = segment_page();
-    for (offset, value, fits) in &CHANGED {
-        let changed = with(&whole, (16 * entry).saturating_add(*offset), *value);
-        reads(rt, &changed, *fits)?;
+    for &(offset, value, fits) in &CHANGED {
+        let changed = with(&whole, (16 * entry).saturating_add(offset), value);
+        reads(rt, &changed, fits);
     }
-    Ok(())
 }
 
 #[test]
-fn changed_entries(rt: HostRuntime) -> Result<(), Fail> {
+fn changed_entries(rt: HostRuntime) {
     for entry in [0, 1, 10, 14] {
-        entry_changed(&rt, entry)?;
+        entry_changed(&rt, entry);
     }
-    Ok(())
 }
 
 // Two entries in each other's place, or one in two places.
 const MOVED: [(usize, usize); 4] = [(0, 1), (0, 14), (6, 7), (13, 14)];
 
-fn moved(rt: &impl Abort, i: usize, k: usize) -> Result<(), Fail> {
+fn moved(rt: &impl Abort, i: usize, k: usize) {
     assert!(rt; i < 15 && k < 15);
-    let whole = segment_page();
-    let mut twice = whole;
-    let mut swapped = whole;
-    for b in 0..16usize {
-        twice[16 * i + b] = whole[16 * k + b];
-        swapped[16 * i + b] = whole[16 * k + b];
-        swapped[16 * k + b] = whole[16 * i + b];
-    }
-    reads(rt, &twice, false)?;
-    reads(rt, &swapped, false)
+    let mut twice = ROWS;
+    twice[i] = ROWS[k];
+    let mut swapped = ROWS;
+    swapped.swap(i, k);
+    reads(rt, &flat(twice), false);
+    reads(rt, &flat(swapped), false);
 }
 
 #[test]
-fn moved_entries(rt: HostRuntime) -> Result<(), Fail> {
+fn moved_entries(rt: HostRuntime) {
     for (i, k) in MOVED {
-        moved(&rt, i, k)?;
+        moved(&rt, i, k);
     }
-    Ok(())
 }

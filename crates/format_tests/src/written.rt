@@ -2,7 +2,6 @@
 use crate::bytes::{Fields, body, page, trailer};
 use format::page::{is_like, read_trailer, write_page};
 use std::process::Abort;
-use std::test::Fail;
 
 // What is written, its sixteen bytes, and whether that is proper on a disk of 65,535 pages.
 static WRITTEN: [(Fields, [u8; 16], bool); 8] = [
@@ -62,13 +61,7 @@ static WRITTEN: [(Fields, [u8; 16], bool); 8] = [
 ];
 
 // A page is written over whatever stood there, and read back if it is proper.
-fn writes(
-    rt: &impl Abort,
-    row: usize,
-    fields: Fields,
-    last: [u8; 16],
-    proper: bool,
-) -> Result<(), Fail> {
+fn writes(rt: &impl Abort, row: usize, fields: Fields, last: [u8; 16], proper: bool) {
     let written = trailer(fields);
     let mut into = [5u8; 256];
     assert_eq!(rt;
@@ -78,15 +71,16 @@ fn writes(
     );
     assert!(rt; into == page(last), "row {row}");
     assert!(rt; is_like(&into, &written), "row {row}");
-    let expected = if proper { Some(written) } else { None };
-    assert_eq!(rt; read_trailer(&into, 65535), expected, "row {row}");
-    Ok(())
+    assert_eq!(rt;
+        read_trailer(&into, 65535),
+        proper.then_some(written),
+        "row {row}"
+    );
 }
 
 #[test]
-fn written_trailers(rt: HostRuntime) -> Result<(), Fail> {
-    for (i, (fields, last, proper)) in WRITTEN.iter().enumerate() {
-        writes(&rt, i, *fields, *last, *proper)?;
+fn written_trailers(rt: HostRuntime) {
+    for (i, &(fields, last, proper)) in WRITTEN.iter().enumerate() {
+        writes(&rt, i, fields, last, proper);
     }
-    Ok(())
 }

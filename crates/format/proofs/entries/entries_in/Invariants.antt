@@ -5,6 +5,5 @@ use Rattle.format.proofs.entries.entries_in.Given as goal
 
 abbrev pub invariant-loop-i : goal.invariant-loop-i
 invariant-loop-i l =
-    (length l.entries ≡ 15)
-    × (entries_left l.pages l.page l.first 0
-    ≡ before (take l.i l.entries) (entries_left l.pages l.page l.first l.i))
+    (length l.entry-items ≡ 15)
+    × (entries_left l.pages l.bytes l.first 0 ≡ before (take l.i l.entry-items) (entries_left l.pages l.bytes l.first l.i))

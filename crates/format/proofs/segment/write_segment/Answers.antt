@@ -1,14 +1,20 @@
-use Rattle.std.proofs.Common.{sym, refl, ◌∙◌, arith}
-use Rattle.std.proofs.lemmas.List.{take_all}
+use Rattle.std.proofs.Common.{refl, ◌∙◌, ap₂, ◌++◌, [], arith, false}
+use Rattle.rules.specs.declared.trailer.Trailer.{Trailer}
 use Rattle.rules.specs.Format.{encode_segment}
-use Rattle.format.specs.Segments.{ends}
+use Rattle.format.proofs.Loops.{joined}
 use Rattle.format.proofs.segment.write_segment.Goals as goal
 
-pub returns : goal.returns
-unfolding encode_segment ends
-returns c =
-    let last = c.put_segment.new.into in
-    record {
-      done = λ l. (refl, sym (take_all 256 last (omega arith)) ∙ c.put_segment.ensures);
-      refused = λ no. absurd (no (omega arith));
-    }
+blank : Trailer
+blank = record { q = 0; back = 0; version = 0; page = 0; dirty = false }
+
+pub returns-clause-done : goal.returns-clause-done
+unfolding encode_segment
+returns-clause-done c =
+    let made = c.map-rows.ensures.items in
+    let all = joined c.args.segment.now.entries c.map-rows.result blank (omega arith)
+    (λ i lt. (made.at i blank [] (omega arith)).2.met) in
+    λ l. (
+      refl,
+      ap₂ ◌++◌ (c.copy_from_slice.ensures.after ∙ c.as_flattened.ensures.value ∙ all)
+          (c.copy_from_slice-2.ensures.after ∙ c.ending_of.ensures),
+    )

@@ -1,6 +1,0 @@
-use Rattle.std.proofs.Common.{◌≡◌, ◌*◌, take}
-use Rattle.rules.specs.Format.{encode_all}
-use Rattle.format.proofs.entries.put_entries.Given as goal
-
-abbrev pub invariant-loop-i : goal.invariant-loop-i
-invariant-loop-i l = take (16 * l.i) l.into ≡ encode_all (take l.i l.entries)
