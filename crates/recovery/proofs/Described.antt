@@ -1,7 +1,7 @@
 -- What is known of one number.
 use Rattle.std.proofs.Common.{◌≡◌, ℕ, zero, suc, ◌+◌, ◌-◌, ◌*◌, ◌/◌, ◌%◌, ◌<◌, ◌≤◌, Bor, cond, List, [], ◌∷◌, map, length, get_or, Some, None, Option, sym, refl, ap, ◌∙◌, ap₂, arith}
 use Rattle.std.specs.Slice.{IsItemAt}
-use Rattle.std.specs.Option.{option_copied, option_flatten, unwrap_or}
+use Rattle.std.specs.Option.{option_copied}
 use Rattle.std.proofs.Math.ListN.{get_or-map}
 use Rattle.std.proofs.lemmas.Bool.{eq-eqb, lt-ltb}
 use Rattle.rules.specs.declared.trailer.Trailer.{Trailer}
@@ -34,11 +34,6 @@ tail_has s gs b ts us q a r lt got own at =
     ∙ ap₂ (λ xs n. nth xs (q - n - 1)) own at
     ∙ sym
     (ap (λ t. cond t (nth ts (q - b - 1)) (of_group q (get_or gs ((q - 1) / 15 % (s + 1)) None))) (lt-ltb b q lt))
-
--- What an optional summary comes to.
-pub flat_is : (o : Option (Option Summary)) → option_flatten o ≡ unwrap_or o None
-flat_is None = refl
-flat_is (Some o) = refl
 
 -- In the segment of its group.
 pub group_in : (s : Summary) (q b : ℕ) (d : Trailer) → b ≡ q - 1 → s.last ≡ 15 * (b / 15) + 15

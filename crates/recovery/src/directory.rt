@@ -2,8 +2,7 @@ ghost use Rattle.std.specs.Prelude.{◌≡◌, ◌+◌, ◌-◌, ◌/◌, ◌%�
 ghost use Rattle.format.specs.Segments.{all_said};
 ghost use Rattle.rules.specs.Recovery.{last_of, of_group, no_entries};
 ghost use Rattle.recovery.specs.Directory.{described_in, gathered};
-ghost use Rattle.recovery.specs.Assembled.{front_in, live_in};
-ghost use Rattle.recovery.specs.Tails.{tail_of};
+ghost use Rattle.recovery.specs.Scans.{pages, newest, tail, last, front};
 
 use crate::places::SLOTS;
 use crate::scan::{Scan, Segments};
@@ -13,6 +12,7 @@ use rules::fault::{Fault, Refusal, Side};
 use rules::trailer::Trailer;
 
 // No entry in any slot.
+#[tactic(auto, unfolding(rules::specs::Recovery::no_entries))]
 pub fn no_entries() -> [Option<Trailer>; SLOTS]
     ensures { result ≡ no_entries }
 {
@@ -47,8 +47,8 @@ impl Scan {
     // What the tail says of a number after the newest segment's, and the segments of one before.
     fn described(&self, q: u32) -> Option<Trailer>
         requires { q ≤ 4000000015 }
-        ensures { result ≡ described_in self.now.shape.groups (map all_said self.now.segments.places.items)
-            (last_of (all_said self.now.segments.newest)) self.now.tail.items q }
+        ensures { result ≡ described_in self.now.shape.groups (pages self.now) (last_of (newest self.now))
+            (tail self.now).trailers q }
     {
         let base = self.segments.last();
         if q > base {
@@ -60,11 +60,8 @@ impl Scan {
 
     // The entries of the live numbers; the lowest that is described nowhere is foreign.
     pub(crate) fn entries(&self) -> Result<[Option<Trailer>; SLOTS], Fault>
-        ensures { result ≡ gathered self.now.shape.groups (map all_said self.now.segments.places.items)
-            (last_of (all_said self.now.segments.newest)) self.now.tail.items
-            (live_in self.now.shape.groups (all_said self.now.segments.newest) (tail_of self.now.tail.items))
-            (front_in self.now.shape.groups (all_said self.now.segments.newest)
-            (last_of (all_said self.now.segments.newest) + length self.now.tail.items)) }
+        ensures { result ≡ gathered self.now.shape.groups (pages self.now) (last_of (newest self.now))
+            (tail self.now).trailers (last self.now + 1 - front self.now) (front self.now) }
     {
         let mut entries = no_entries();
         for q in self.front()..self.last() + 1 {

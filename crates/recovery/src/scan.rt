@@ -1,8 +1,6 @@
-ghost use Rattle.std.specs.Prelude.{◌≡◌, ◌+◌, ◌-◌, ◌≤◌, length, map, IfOk};
+ghost use Rattle.std.specs.Prelude.{◌≡◌, ◌+◌, ◌-◌, ◌≤◌, length, IfOk};
 ghost use Rattle.format.specs.Segments.{all_said};
 ghost use Rattle.rules.specs.Recovery.{last_of, front_of};
-ghost use Rattle.recovery.specs.Assembled.{front_in, live_in, assembled};
-ghost use Rattle.recovery.specs.Tails.{tail_of};
 
 use crate::places::GROUP;
 use crate::recovered::Recovered;
@@ -51,6 +49,9 @@ impl Segments {
 }
 
 impl Scan {
+    ghost use Rattle.recovery.specs.Assembled.{assembled};
+    ghost use Rattle.recovery.specs.Scans.{pages, newest, tail, last, front};
+
     // How many frames of the tail were accepted.
     fn accepted(&self) -> u16
         ensures exact { result ≡ length self.now.tail.items }
@@ -61,7 +62,7 @@ impl Scan {
 
     // The last number.
     pub(crate) fn last(&self) -> u32
-        ensures exact { result ≡ last_of (all_said self.now.segments.newest) + length self.now.tail.items }
+        ensures exact { result ≡ last self.now }
         ensures most { result ≤ 4000000000 }
     {
         self.segments.last() + u32::from(self.accepted())
@@ -69,8 +70,7 @@ impl Scan {
 
     // The front: not below the newest segment's, and one frame stays free.
     pub(crate) fn front(&self) -> u32
-        ensures { result ≡ front_in self.now.shape.groups (all_said self.now.segments.newest)
-            (last_of (all_said self.now.segments.newest) + length self.now.tail.items) }
+        ensures { result ≡ front self.now }
     {
         let least = (self.last() + 2).saturating_sub(u32::from(self.shape.frames()));
         least.max(self.segments.front()).max(1)
@@ -78,22 +78,21 @@ impl Scan {
 
     // How many numbers are live.
     fn live(&self) -> u16
-        ensures { result ≡ live_in self.now.shape.groups (all_said self.now.segments.newest) (tail_of self.now.tail.items) }
+        ensures { result ≡ last self.now + 1 - front self.now }
     {
         (self.last() + 1).saturating_sub(self.front()) as u16
     }
 
     // How many pages were read. The frame that ends a tail early is one of them.
     fn reads(&self) -> u16
-        ensures { result ≡ self.now.shape.groups + 1 + (tail_of self.now.tail.items).reads }
+        ensures { result ≡ self.now.shape.groups + 1 + (tail self.now).reads }
     {
         self.shape.segment_pages() + (self.accepted() + 1).min(GROUP)
     }
 
     // What was read back.
     pub(crate) fn recovered(&self) -> Result<Recovered, Fault>
-        ensures exact { result ≡ assembled self.now.shape.groups (all_said self.now.segments.newest)
-            (map all_said self.now.segments.places.items) (tail_of self.now.tail.items) }
+        ensures exact { result ≡ assembled self.now.shape.groups (newest self.now) (pages self.now) (tail self.now) }
         ensures most { IfOk result (λ r. r.found.last ≤ 4000000000) }
     {
         let entries = self.entries()?;
