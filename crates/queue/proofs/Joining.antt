@@ -1,7 +1,7 @@
 -- What enqueue gives, by what its parts give.
 use Rattle.std.proofs.Common.{◌≡◌, ℕ, ◌+◌, ◌-◌, ◌/◌, ◌<◌, Bool, cond, [], ◌++◌, Ok, Result, sym, ap, ◌∙◌, subst, arith}
 use Rattle.std.proofs.lemmas.Bool.{ne_eqb}
-use Rattle.medium.specs.Meaning.{Bytes, page}
+use Rattle.medium.specs.Meaning.{Bytes, Meaning, page, size}
 use Rattle.medium.specs.Outcome.{Gives, refused}
 use Rattle.rules.specs.declared.fault.Fault.{Fault}
 use Rattle.rules.specs.declared.fault.Refusal.TheVariants as refusal
@@ -14,6 +14,7 @@ use Rattle.rules.specs.Steps.{then_do}
 use Rattle.rules.proofs.Given.{framed_gives, then_gives}
 use Rattle.queue.specs.Parts.{put_frame}
 use Rattle.queue.specs.Runs.{segment_in}
+use Rattle.queue.specs.View.{Sized}
 use Rattle.queue.proofs.Runs.{segment_is}
 
 abbrev Answer : Type 0
@@ -62,3 +63,7 @@ segment_given x z bs c i r many laid seat put =
     ap (λ n. segment_in n x.entries x.front x.last) many ∙ sym (segment_is x) in
     subst (λ (j : ℕ). Gives (write_flash x j (encode_segment (segment_of x))) r z) seat
     (subst (λ (xs : Bytes). Gives (write_flash x i xs) r z) (laid ∙ ap encode_segment own) put)
+
+-- A flash of the same size has it still.
+pub sized_still : (m n : Meaning) → size n ≡ size m → Sized m → Sized n
+sized_still m n is s = record { least = rw is s.least; most = rw is s.most }

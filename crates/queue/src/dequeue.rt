@@ -36,11 +36,11 @@ impl<F: Medium, D: Medium> Queue<F, D> {
         ensures { Does F.Medium D.Medium self.old self.new result dequeue }
     {
         let front = self.front;
-        if let Some(entry) = self.entry(front) {
-            if self.must_save(&entry) {
-                let bytes = self.read_checked(&entry)?;
-                self.put_disk(entry.page, &bytes)?;
-            }
+        if let Some(entry) = self.entry(front)
+            && self.must_save(&entry)
+        {
+            let bytes = self.read_checked(&entry)?;
+            self.put_disk(entry.page, &bytes)?;
         }
         self.clear(front);
         self.front = front + 1;

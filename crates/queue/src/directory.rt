@@ -11,8 +11,7 @@ use rules::trailer::Trailer;
 pub(crate) fn at_slot(entries: &[Option<Trailer>; SLOTS], slot: u16) -> Option<Trailer>
     ensures { result ≡ slice_index_or entries.now slot None }
 {
-    let i = usize::from(slot);
-    if i < SLOTS { entries[i] } else { None }
+    entries.get(usize::from(slot)).copied().flatten()
 }
 
 fn put_slot(entries: &mut [Option<Trailer>; SLOTS], slot: u16, entry: Option<Trailer>)
@@ -28,10 +27,7 @@ fn put_slot(entries: &mut [Option<Trailer>; SLOTS], slot: u16, entry: Option<Tra
 pub(crate) fn number_of(entry: Option<Trailer>) -> u32
     ensures { result ≡ number entry }
 {
-    match entry {
-        Some(trailer) => trailer.q,
-        None => 0,
-    }
+    entry.map_or(0, |trailer| trailer.q)
 }
 
 impl<F: Medium, D: Medium> Queue<F, D> {

@@ -1,6 +1,5 @@
-ghost use Rattle.std.specs.Prelude.{◌≡◌, ◌<◌, ◌≤◌, false, IfOk, ◌==◌};
+ghost use Rattle.std.specs.Prelude.{◌≡◌, ◌<◌, ◌≤◌, IfOk};
 ghost use Rattle.medium.specs.Rules.{plainly};
-ghost use Rattle.rules.specs.Format.{most};
 ghost use Rattle.rules.specs.Queue.{append, describe_due, enqueue, make_room, number, valid, write_segment};
 ghost use Rattle.queue.specs.Parts.{put_frame};
 ghost use Rattle.queue.specs.View.{Does, view};
@@ -12,19 +11,7 @@ use format::page::{BODY, write_page};
 use medium::{Medium, PAGE};
 use recovery::places::{GROUP, frames_of, segment_page};
 use rules::fault::{Fault, Refusal};
-use rules::trailer::Trailer;
-
-// The highest sequence number.
-pub(crate) const MOST: u32 = 4_000_000_000;
-
-// Whether no number is left after this one.
-fn is_spent(last: u32) -> bool
-    requires { last ≤ 4000000000 }
-    ensures exact { result ≡ (last == most) }
-    ensures low { result ≡ false → last < 4000000000 }
-{
-    last == MOST
-}
+use rules::trailer::{MOST, Trailer};
 
 impl<F: Medium, D: Medium> Queue<F, D> {
     // One frame fewer than there are may be live, so that the frame of the next number is free.
@@ -100,7 +87,7 @@ impl<F: Medium, D: Medium> Queue<F, D> {
         ensures { Does F.Medium D.Medium self.old self.new result
             (λ x. enqueue x page version dirty body.now) }
     {
-        if is_spent(self.last) {
+        if self.last >= MOST {
             return Err(Fault::plain(Refusal::Spent));
         }
         let q = self.last + 1;

@@ -5,25 +5,17 @@ ghost use Rattle.rules.specs.Format.{encode_segment};
 ghost use Rattle.queue.specs.Runs.{segment_in};
 
 use crate::directory::at_slot;
-use format::segment::{DESCRIBED, Summary, write_segment};
+use format::segment::{Summary, write_segment};
 use medium::PAGE;
 use recovery::places::{SLOTS, slot};
 use rules::trailer::{BLANK, Trailer};
-
-fn or_zero(entry: Option<Trailer>) -> Trailer
-    ensures { result ≡ or_zero entry }
-{
-    match entry {
-        Some(trailer) => trailer,
-        None => BLANK,
-    }
-}
+use std::array;
 
 // The trailer of a number in a directory of so many frames.
 fn trailer_of(entries: &[Option<Trailer>; SLOTS], frames: u16, q: u32) -> Trailer
     ensures { 1 ≤ frames → result ≡ or_zero (slice_index_or entries.now (place frames q) None) }
 {
-    or_zero(at_slot(entries, slot(q, frames)))
+    at_slot(entries, slot(q, frames)).unwrap_or(BLANK)
 }
 
 // The segment that ends at the last number of a directory.
@@ -31,14 +23,10 @@ fn segment_of(entries: &[Option<Trailer>; SLOTS], frames: u16, front: u32, last:
     ensures { 1 ≤ frames → said result ≡ segment_in frames entries.now front last }
 {
     let first = last.saturating_sub(14);
-    let mut described = [BLANK; DESCRIBED];
-    for i in 0..DESCRIBED {
-        described[i] = trailer_of(entries, frames, first + i as u32);
-    }
     Summary {
         last,
         front,
-        entries: described,
+        entries: array::from_fn(|i| trailer_of(entries, frames, first + i as u32)),
     }
 }
 

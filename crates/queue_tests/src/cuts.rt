@@ -1,7 +1,7 @@
 // The run, cut at every single write, and gone on with.
 use crate::run::{STEPS, Stop, play};
 use crate::seen::{at_end, holds_all};
-use crate::stage::on_all;
+use crate::stage::{Strike, on_all};
 use medium::Medium;
 use queue::queue::Queue;
 use rules::fault::{Fault, Refusal, Side};
@@ -12,39 +12,6 @@ use std::test::Fail;
 // Enough for any run.
 const PLENTY: u32 = 1000;
 
-// What a strike leaves.
-#[derive(Clone, Copy)]
-pub enum Strike {
-    Old,
-    New,
-    Torn,
-}
-
-impl Strike {
-    pub(crate) fn on_tray(self) -> u8 {
-        match self {
-            Strike::Old => 0,
-            Strike::New => 1,
-            Strike::Torn => 2,
-        }
-    }
-
-    pub(crate) fn on_card(self) -> u8 {
-        match self {
-            Strike::Old => 0,
-            Strike::New => 16,
-            Strike::Torn => 8,
-        }
-    }
-
-    fn is_new(self) -> bool {
-        match self {
-            Strike::New => true,
-            Strike::Old | Strike::Torn => false,
-        }
-    }
-}
-
 const STRIKES: [Strike; 3] = [Strike::Old, Strike::New, Strike::Torn];
 
 // A run with these charges: where it stops, if it does, how many of its steps are found then, and how many of these no
@@ -54,13 +21,13 @@ pub struct Cut {
     pub flash: u32,
     pub disk: u32,
     pub strike: Strike,
-    stop: Option<Stop>,
+    stop: Result<(), Stop>,
     steps: u8,
     tail: u16,
 }
 
-fn stop(step: u8, side: Side, page: u8) -> Option<Stop> {
-    Some(Stop {
+fn stop(step: u8, side: Side, page: u8) -> Result<(), Stop> {
+    Err(Stop {
         step,
         fault: Fault::touched(Refusal::Dark, side, u16::from(page)),
     })
@@ -77,8 +44,8 @@ fn flash_cut(write: u8, strike: Strike) -> Cut {
     } else {
         (15 * groups + frame) % 30
     };
-    let steps = step - u8::from(!is_segment && !strike.is_new());
-    let segments = groups + u8::from(is_segment && strike.is_new());
+    let steps = step - u8::from(!is_segment && strike != Strike::New);
+    let segments = groups + u8::from(is_segment && strike == Strike::New);
     Cut {
         flash: u32::from(write),
         disk: PLENTY,
@@ -92,12 +59,11 @@ fn flash_cut(write: u8, strike: Strike) -> Cut {
 // The steps that send a page to the disk, and the page.
 const SAVES: [(u8, u8); 5] = [(36, 4), (40, 5), (62, 7), (69, 5), (79, 4)];
 
-fn disk_cut(write: u8, row: (u8, u8), strike: Strike) -> Cut {
-    let (step, page) = row;
+fn disk_cut(write: u32, (step, page): (u8, u8), strike: Strike) -> Cut {
     let steps = step.saturating_sub(1);
     Cut {
         flash: PLENTY,
-        disk: u32::from(write),
+        disk: write,
         strike,
         stop: stop(step, Side::Disk, page),
         steps,
@@ -120,7 +86,7 @@ pub(crate) fn through<F: Medium, D: Medium>(
     };
     assert_eq!(rt; queue.recover(), Ok(found));
     holds_all(rt, queue, cut.steps)?;
-    assert_eq!(rt; play(queue, cut.steps.saturating_add(1), STEPS), None);
+    assert_eq!(rt; play(queue, cut.steps.saturating_add(1), STEPS), Ok(()));
     at_end(rt, queue)
 }
 
@@ -132,7 +98,7 @@ fn no_cut(rt: HostRuntime) -> Result<(), Fail> {
             flash: 101,
             disk: 5,
             strike: Strike::Torn,
-            stop: None,
+            stop: Ok(()),
             steps: 95,
             tail: 5,
         },
@@ -152,8 +118,8 @@ fn at_every_flash_write(rt: HostRuntime) -> Result<(), Fail> {
 #[test]
 fn at_every_disk_write(rt: HostRuntime) -> Result<(), Fail> {
     for strike in STRIKES {
-        for write in 0..5u8 {
-            on_all(&rt, &disk_cut(write, SAVES[usize::from(write)], strike))?;
+        for (write, save) in (0..5u32).zip(&SAVES) {
+            on_all(&rt, &disk_cut(write, *save, strike))?;
         }
     }
     Ok(())

@@ -24,15 +24,12 @@ pub(crate) fn version_of(step: u8) -> u8 {
     if step == 64 { 33 } else { step }
 }
 
-// The newest version of a page among so many steps, 0 if there is none.
-pub(crate) fn newest(steps: u8, page: u16) -> u8 {
-    let mut version = 0;
-    for step in 1..=steps {
-        if page_of(step) == page {
-            version = version_of(step);
-        }
-    }
-    version
+// The newest version of a page among so many steps.
+pub(crate) fn newest(steps: u8, page: u16) -> Option<u8> {
+    (1..=steps)
+        .rev()
+        .find(|step| page_of(*step) == page)
+        .map(version_of)
 }
 
 // A step that was refused, and why.
@@ -47,13 +44,13 @@ pub(crate) fn play<F: Medium, D: Medium>(
     queue: &mut Queue<F, D>,
     first: u8,
     last: u8,
-) -> Option<Stop> {
+) -> Result<(), Stop> {
     for step in first..=last {
         let version = version_of(step);
         let body = [version; 240];
-        if let Err(fault) = queue.enqueue(page_of(step), u32::from(version), step != 64, &body) {
-            return Some(Stop { step, fault });
-        }
+        queue
+            .enqueue(page_of(step), u32::from(version), step != 64, &body)
+            .map_err(|fault| Stop { step, fault })?;
     }
-    None
+    Ok(())
 }

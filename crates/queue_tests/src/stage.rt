@@ -1,4 +1,4 @@
-// The media that a run is played on.
+// The media that a queue is tried on.
 use crate::cuts::{Cut, through};
 use layers::read_buffer::ReadBuffer;
 use layers::window::Window;
@@ -9,56 +9,73 @@ use queue::queue::Queue;
 use std::process::Abort;
 use std::test::Fail;
 
-fn on<F: Medium + Drop, D: Medium + Drop>(
-    rt: &impl Abort,
-    flash: F,
-    disk: D,
-    cut: &Cut,
-) -> Result<(), Fail> {
+// What a strike leaves, by its number for a tray.
+#[derive(Clone, Copy, PartialEq, Eq)]
+pub enum Strike {
+    Old = 0,
+    New = 1,
+    Torn = 2,
+}
+
+impl Strike {
+    // After how many sectors of a card it strikes.
+    fn sectors(self) -> u8 {
+        match self {
+            Strike::Old => 0,
+            Strike::New => 16,
+            Strike::Torn => 8,
+        }
+    }
+}
+
+fn tray(bytes: &mut [u8], strike: Strike, charge: u32) -> Tray<'_> {
+    Tray::new(bytes, strike as u8, charge)
+}
+
+fn card(bytes: &mut [u8], strike: Strike, charge: u32) -> Card<'_> {
+    Card::new(bytes, strike.sectors(), charge)
+}
+
+// A window over a read buffer over a tray that has a page more before it and one after it.
+fn pile(bytes: &mut [u8], pages: u16, strike: Strike, charge: u32) -> Window<ReadBuffer<Tray<'_>>> {
+    Window::new(1, pages, ReadBuffer::new(tray(bytes, strike, charge)))
+}
+
+// A tray on which a strike tears.
+pub(crate) fn torn(bytes: &mut [u8], charge: u32) -> Tray<'_> {
+    tray(bytes, Strike::Torn, charge)
+}
+
+// Does something with a queue over two media.
+pub(crate) fn on<F, D, C>(flash: F, disk: D, check: C) -> Result<(), Fail>
+where
+    F: Medium + Drop,
+    D: Medium + Drop,
+    C: FnOnce(&mut Queue<F, D>) -> Result<(), Fail>,
+    requires { C.IsAlwaysCallable check }
+{
     let mut queue = Queue::new(flash, disk);
-    let answer = through(rt, &mut queue, cut);
+    let answer = check(&mut queue);
     let (_flash, _disk) = queue.into_media();
     answer
 }
 
-fn on_tray_and_card(rt: &impl Abort, cut: &Cut) -> Result<(), Fail> {
-    let mut flash = [0u8; 8481];
-    let mut disk = [0u8; 2176];
-    on(
-        rt,
-        Tray::new(&mut flash, cut.strike.on_tray(), cut.flash),
-        Card::new(&mut disk, cut.strike.on_card(), cut.disk),
-        cut,
-    )
-}
-
-fn on_card_and_tray(rt: &impl Abort, cut: &Cut) -> Result<(), Fail> {
-    let mut flash = [0u8; 8976];
-    let mut disk = [0u8; 2056];
-    on(
-        rt,
-        Card::new(&mut flash, cut.strike.on_card(), cut.flash),
-        Tray::new(&mut disk, cut.strike.on_tray(), cut.disk),
-        cut,
-    )
-}
-
-// A window over a read buffer over a tray that has a page more before it and one after it.
-fn on_piles(rt: &impl Abort, cut: &Cut) -> Result<(), Fail> {
-    let mut flash = [0u8; 8995];
-    let mut disk = [0u8; 2570];
-    let below = Tray::new(&mut flash, cut.strike.on_tray(), cut.flash);
-    let under = Tray::new(&mut disk, cut.strike.on_tray(), cut.disk);
-    on(
-        rt,
-        Window::new(1, 33, ReadBuffer::new(below)),
-        Window::new(1, 8, ReadBuffer::new(under)),
-        cut,
-    )
-}
-
+// The run with this cut, on media of three kinds.
 pub(crate) fn on_all(rt: &impl Abort, cut: &Cut) -> Result<(), Fail> {
-    on_tray_and_card(rt, cut)?;
-    on_card_and_tray(rt, cut)?;
-    on_piles(rt, cut)
+    let strike = cut.strike;
+    on(
+        tray(&mut [0; 8481], strike, cut.flash),
+        card(&mut [0; 2176], strike, cut.disk),
+        |queue| through(rt, queue, cut),
+    )?;
+    on(
+        card(&mut [0; 8976], strike, cut.flash),
+        tray(&mut [0; 2056], strike, cut.disk),
+        |queue| through(rt, queue, cut),
+    )?;
+    on(
+        pile(&mut [0; 8995], 33, strike, cut.flash),
+        pile(&mut [0; 2570], 8, strike, cut.disk),
+        |queue| through(rt, queue, cut),
+    )
 }

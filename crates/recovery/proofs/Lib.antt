@@ -1,5 +1,4 @@
 pub mod Recover
-pub mod Pages
 pub mod SegmentPages
 pub mod TailFrames
 pub mod Described

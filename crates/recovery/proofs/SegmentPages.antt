@@ -1,13 +1,10 @@
 -- All segment pages, one after another.
-use Rattle.std.proofs.Common.{◌≡◌, ℕ, suc, ◌+◌, ◌-◌, ◌<◌, List, [], ◌∷◌, ◌++◌, map, length, take, set, Some, None, Ok, Err, Option, Result, sym, refl, ap, ◌∙◌, arith}
-use Rattle.std.proofs.lemmas.List.{take_more_set, map_push}
+use Rattle.std.proofs.Common.{◌≡◌, ℕ, suc, ◌+◌, ◌-◌, ◌<◌, List, [], ◌∷◌, ◌++◌, Some, None, Ok, Err, Option, Result, sym, refl, ap, ◌∙◌, arith}
 use Rattle.std.proofs.lemmas.Bool.Decides.{nat_tests}
 use Rattle.medium.specs.Meaning.{Meaning}
 use Rattle.rules.specs.declared.fault.Fault.{Fault}
 use Rattle.rules.specs.Format.{Segment}
 use Rattle.rules.specs.Recovery.{joined, read_segments, later, newest}
-use Rattle.format.specs.declared.segment.Summary.{Summary}
-use Rattle.format.specs.Segments.{all_said}
 use Rattle.recovery.specs.Segments.{one_segment}
 
 -- The later of three, and the newest of one more.
@@ -43,11 +40,6 @@ ahead_more : (gs : List (Option Segment)) (g : Option Segment) (r : Result (List
     → ahead (gs ++ (g ∷ [])) r ≡ ahead gs (joined (Ok g) r)
 ahead_more [] g r = refl
 ahead_more (h ∷ gs) g r = ap (joined (Ok h)) (ahead_more gs g r)
-
--- A table with one more page read.
-pub table_more : (os : List (Option Summary)) (i : ℕ) (o : Option Summary) → i < length os
-    → map all_said (take (i + 1) (set os i o)) ≡ map all_said (take i os) ++ (all_said o ∷ [])
-table_more os i o lt = ap (map all_said) (take_more_set os i o lt) ∙ map_push all_said (take i os) o
 
 -- The turns: n pages, of which i are read, from a flash that means the same before and after.
 module _ (m : Meaning) (p n i : ℕ) (gs : List (Option Segment)) (whole : Result (List (Option Segment)) Fault)

@@ -1,12 +1,14 @@
 -- The frames of the tail, one after another.
-use Rattle.std.proofs.Common.{◌≡◌, ℕ, suc, ◌+◌, ◌-◌, ◌<◌, Bool, true, false, cond, eqb, List, [], ◌∷◌, ◌++◌, length, Some, None, Ok, Err, Option, Result, sym, refl, ap, ◌∙◌, ap₂, add-zero, arith}
+use Rattle.std.proofs.Common.{◌≡◌, ℕ, suc, ◌+◌, ◌-◌, ◌<◌, min, Bool, true, false, cond, eqb, List, [], ◌∷◌, ◌++◌, length, Some, None, Ok, Err, Option, Result, sym, refl, ap, ◌∙◌, ap₂, add-zero, arith}
+use Rattle.std.proofs.Math.Nat.{add_comm, zero-add, min-eq_left, min-eq_right}
+use Rattle.std.proofs.lemmas.List.{length_push}
 use Rattle.medium.specs.Meaning.{Page, Meaning, page}
 use Rattle.rules.specs.declared.fault.Fault.{Fault}
 use Rattle.rules.specs.declared.trailer.Trailer.{Trailer}
 use Rattle.rules.specs.Format.{proper}
 use Rattle.rules.specs.Queue.{frames, place}
 use Rattle.rules.specs.Recovery.{Tail, ended, more, older, sort_of, from_frame, read_tail, foreign_at, dark_at}
-use Rattle.recovery.specs.Tails.{sorted, frame_in, one_frame, tail_left}
+use Rattle.recovery.specs.Tails.{sorted, frame_in, one_frame, tail_of, tail_left}
 
 -- One frame, and what is left then.
 abbrev pub follow : Result (Option Trailer) Fault → Result Tail Fault → Result Tail Fault
@@ -77,30 +79,34 @@ left_none : (m : Meaning) (p q i : ℕ) → i ≡ 15 → tail_left m p q i ≡ t
 unfolding tail_left
 left_none m p q i end = let none : 15 - i ≡ 0 = omega arith in ap (λ k. read_tail m p k (q + i)) none
 
--- The turns: i frames from that of q on are read.
-module _ (m : Meaning) (p q i : ℕ) (ts : List Trailer) (whole : Result Tail Fault)
-    (is : whole ≡ ahead ts (tail_left m p q i)) where
-  -- The next frame gives r, by a flash that means x, the same.
-  module _ (x : Meaning) (k : ℕ) (r : Result (Option Trailer) Fault) (same : x ≡ m) (at : k ≡ i) (lt : i < 15)
-      (here : r ≡ one_frame x p (q + k)) where
-    left : (o : Result (Option Trailer) Fault) → r ≡ o → whole ≡ ahead ts (follow o (tail_left m p q (i + 1)))
+-- The turns: the frames of ts are read, from that of q on.
+module _ (m : Meaning) (p q : ℕ) (ts : List Trailer) (whole : Result Tail Fault)
+    (is : whole ≡ ahead ts (tail_left m p q (length ts))) where
+  -- The next frame, that of number k, gives r, by a flash that means x, the same.
+  module _ (x : Meaning) (k : ℕ) (r : Result (Option Trailer) Fault) (same : x ≡ m) (at : k ≡ q + length ts)
+      (lt : length ts < 15) (here : r ≡ one_frame x p k) where
+    left : (o : Result (Option Trailer) Fault) → r ≡ o → whole ≡ ahead ts (follow o (tail_left m p q (length ts + 1)))
     left o own =
         is
-        ∙ ap (ahead ts) (left_more m p q i lt)
-        ∙ ap (λ y. ahead ts (follow y (tail_left m p q (i + 1))))
-        (sym (here ∙ ap₂ (λ y n. one_frame y p (q + n)) same at) ∙ own)
+        ∙ ap (ahead ts) (left_more m p q (length ts) lt)
+        ∙ ap (λ y. ahead ts (follow y (tail_left m p q (length ts + 1)))) (sym (here ∙ ap₂ (λ y n. one_frame y p n) same at) ∙ own)
 
-    pub tail_more : (t : Trailer) → r ≡ Ok (Some t) → whole ≡ ahead (ts ++ (t ∷ [])) (tail_left m p q (i + 1))
-    tail_more t own = left (Ok (Some t)) own ∙ sym (ahead_more ts t (tail_left m p q (i + 1)))
+    pub tail_more : (t : Trailer) → r ≡ Ok (Some t)
+        → whole ≡ ahead (ts ++ (t ∷ [])) (tail_left m p q (length (ts ++ (t ∷ []))))
+    tail_more t own =
+        left (Ok (Some t)) own
+        ∙ sym (ahead_more ts t (tail_left m p q (length ts + 1)))
+        ∙ ap (λ n. ahead (ts ++ (t ∷ [])) (tail_left m p q n)) (sym (length_push ts t))
 
     pub tail_fails : (e : Fault) → r ≡ Err e → whole ≡ Err e
     tail_fails e own = left (Err e) own ∙ ahead_err ts e
 
-    pub tail_ends : r ≡ Ok None → length ts ≡ i → whole ≡ tail_with ts (i + 1)
-    tail_ends own long =
-        let n : 1 + length ts ≡ i + 1 = omega arith in left (Ok None) own ∙ ahead_end ts 1 ∙ ap (tail_with ts) n
+    pub tail_ends : r ≡ Ok None → whole ≡ Ok (tail_of ts)
+    tail_ends own =
+        let n : 1 + length ts ≡ min (length ts + 1) 15 = add_comm 1 (length ts) ∙ sym (min-eq_left (omega arith)) in
+        left (Ok None) own ∙ ahead_end ts 1 ∙ ap (tail_with ts) n
 
-  pub tail_all : i ≡ 15 → length ts ≡ i → whole ≡ tail_with ts 15
-  tail_all end long =
-      let n : 0 + length ts ≡ 15 = omega arith in
-      is ∙ ap (ahead ts) (left_none m p q i end) ∙ ahead_end ts 0 ∙ ap (tail_with ts) n
+  pub tail_all : length ts ≡ 15 → whole ≡ Ok (tail_of ts)
+  tail_all end =
+      let n : 0 + length ts ≡ min (length ts + 1) 15 = zero-add (length ts) ∙ end ∙ sym (min-eq_right (omega arith)) in
+      is ∙ ap (ahead ts) (left_none m p q (length ts) end) ∙ ahead_end ts 0 ∙ ap (tail_with ts) n

@@ -21,8 +21,3 @@ placed_in c (Some t) q (Ok es) = Ok (slice_set es (place c q) (Some t))
 abbrev pub gathered : ℕ → List (Option Segment) → ℕ → List Trailer → ℕ → ℕ → Result Entries Fault
 gathered s gs b ts zero q = Ok no_entries
 gathered s gs b ts (suc n) q = placed_in (15 * s) (described_in s gs b ts q) q (gathered s gs b ts n (q + 1))
-
--- What comes of the entries so far, and of the lowest number so far that is described nowhere.
-abbrev pub outcome : ℕ → Option ℕ → Entries → Result Entries Fault
-outcome c None es = Ok es
-outcome c (Some q) es = Err (foreign_at (place c q))

@@ -4,3 +4,4 @@ pub mod Segments
 pub mod Tails
 pub mod Directory
 pub mod Assembled
+pub mod Scans

@@ -1,5 +1,5 @@
 -- Segment pages, one and then all.
-use Rattle.std.specs.Prelude.{ℕ, ◌+◌, ◌≤◌, cond, List, map, take, IfSome, Ok, Err, Option, Result}
+use Rattle.std.specs.Prelude.{ℕ, ◌+◌, ◌≤◌, cond, List, map, IfSome, Ok, Err, Option, Result}
 use Rattle.medium.specs.Meaning.{Meaning, page}
 use Rattle.rules.specs.declared.fault.Fault.{Fault}
 use Rattle.rules.specs.Format.{Segment, most}
@@ -7,7 +7,7 @@ use Rattle.rules.specs.Queue.{frames}
 use Rattle.rules.specs.Recovery.{dark_at, from_page}
 use Rattle.format.specs.declared.segment.Summary.{Summary}
 use Rattle.format.specs.Segments.{all_said}
-use Rattle.recovery.specs.declared.segments.Segments.{Segments}
+use Rattle.recovery.specs.declared.scan.Segments.{Segments}
 
 -- No number is past the highest.
 abbrev pub Within : Option Summary → Type 0
@@ -21,10 +21,6 @@ abbrev pub one_said : Result (Option Summary) Fault → Result (Option Segment) 
 one_said (Err e) = Err e
 one_said (Ok o) = Ok (all_said o)
 
--- The s + 1 pages of a table.
-abbrev pub table_said : ℕ → List (Option Summary) → List (Option Segment)
-table_said s os = map all_said (take (s + 1) os)
-
-abbrev pub said_in : ℕ → Result Segments Fault → Result (List (Option Segment)) Fault
-said_in s (Err e) = Err e
-said_in s (Ok x) = Ok (table_said s x.places)
+abbrev pub said_in : Result Segments Fault → Result (List (Option Segment)) Fault
+said_in (Err e) = Err e
+said_in (Ok x) = Ok (map all_said x.places.items)

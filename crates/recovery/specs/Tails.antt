@@ -1,5 +1,5 @@
 -- The tail, one frame and then all.
-use Rattle.std.specs.Prelude.{ℕ, ◌+◌, ◌-◌, Bool, cond, ◌&&◌, take, Some, None, Ok, Err, Option, Result, ◌==◌, nat_lt}
+use Rattle.std.specs.Prelude.{ℕ, ◌+◌, ◌-◌, min, Bool, cond, ◌&&◌, List, length, Some, None, Ok, Err, Option, Result, ◌==◌, nat_lt}
 use Rattle.medium.specs.Meaning.{Page, Meaning, page}
 use Rattle.rules.specs.declared.fault.Fault.{Fault}
 use Rattle.rules.specs.declared.trailer.Trailer.{Trailer}
@@ -7,7 +7,7 @@ use Rattle.rules.specs.Format.{proper}
 use Rattle.rules.specs.Queue.{frames, place}
 use Rattle.rules.specs.Recovery.{foreign_at, dark_at, read_tail}
 use Rattle.rules.specs.Recovery as rule
-use Rattle.recovery.specs.declared.tail.Tail.{Tail}
+use Rattle.arrayvec.specs.ArrayVec.{ArrayVec}
 
 -- Number n lay in the frame of q before, among c frames.
 abbrev pub was_in : ℕ → ℕ → ℕ → Bool
@@ -27,13 +27,13 @@ abbrev pub one_frame : Meaning → ℕ → ℕ → Result (Option Trailer) Fault
 one_frame m p q =
     cond m.lit (frame_in (frames m) p q (page m (place (frames m) q))) (Err (dark_at (place (frames m) q)))
 
--- The tail as the rules have it.
-abbrev pub tail_of : Tail → rule.Tail
-tail_of t = record { trailers = take t.count t.trailers; reads = t.reads }
+-- The tail as the rules have it: the frame that ended it early was read too.
+abbrev pub tail_of : List Trailer → rule.Tail
+tail_of ts = record { trailers = ts; reads = min (length ts + 1) 15 }
 
-abbrev pub tail_said : Result Tail Fault → Result rule.Tail Fault
+abbrev pub tail_said : Result (ArrayVec Trailer) Fault → Result rule.Tail Fault
 tail_said (Err e) = Err e
-tail_said (Ok t) = Ok (tail_of t)
+tail_said (Ok t) = Ok (tail_of t.items)
 
 -- Of the fifteen frames from that of q on, those from the i-th on: a proof opens it.
 unfoldable pub tail_left : Meaning → ℕ → ℕ → ℕ → Result rule.Tail Fault

@@ -1,111 +1,75 @@
-ghost use Rattle.std.specs.Prelude.{◌≡◌, ◌+◌, ◌-◌, ◌<◌, ◌≤◌, take};
+ghost use Rattle.std.specs.Prelude.{◌≡◌, ◌+◌, ◌-◌, ◌/◌, ◌%◌, ◌≤◌, None, length, map, slice_index_or};
 ghost use Rattle.format.specs.Segments.{all_said};
-ghost use Rattle.rules.specs.Recovery.{nth, of_group, no_entries};
-ghost use Rattle.recovery.specs.Segments.{table_said};
-ghost use Rattle.recovery.specs.Directory.{described_in, placed_in, gathered, outcome};
+ghost use Rattle.rules.specs.Recovery.{last_of, of_group, no_entries};
+ghost use Rattle.recovery.specs.Directory.{described_in, gathered};
+ghost use Rattle.recovery.specs.Scans.{pages, newest, tail, last, front};
 
-use crate::places::{GROUP, SLOTS, slot};
-use crate::segments::Segments;
-use crate::tail::Tail;
+use crate::places::SLOTS;
+use crate::scan::{Scan, Segments};
+use crate::shape::Shape;
 use format::segment::Summary;
 use rules::fault::{Fault, Refusal, Side};
 use rules::trailer::Trailer;
 
-// The trailer at a place of the tail, if it has so many.
-fn in_tail(tail: &Tail, i: u32) -> Option<Trailer>
-    requires { tail.now.count ≤ 15 }
-    ensures { result ≡ nth (take tail.now.count tail.now.trailers) i }
-{
-    if i < u32::from(tail.count) {
-        Some(tail.trailers[i as usize])
-    } else {
-        None
-    }
-}
-
-// The trailer of a number in the segment of its group, if that is the segment at hand.
-fn in_group(segment: &Option<Summary>, q: u32) -> Option<Trailer>
-    requires { q ≤ 4000000015 }
-    ensures { result ≡ of_group q (all_said segment.now) }
-{
-    let before = q.saturating_sub(1);
-    match segment {
-        None => None,
-        Some(s) => {
-            if s.last == 15 * (before / 15) + 15 {
-                Some(s.entries[(before % 15) as usize])
-            } else {
-                None
-            }
-        }
-    }
-}
-
-// What the segments and the tail after `base` say of a number.
-fn described(segments: &Segments, groups: u16, tail: &Tail, base: u32, q: u32) -> Option<Trailer>
-    requires { (groups ≤ 14) × ((tail.now.count ≤ 15) × (q ≤ 4000000015)) }
-    ensures { result ≡ described_in groups (table_said groups segments.now.places) base
-        (take tail.now.count tail.now.trailers) q }
-{
-    if q > base {
-        in_tail(tail, q - base - 1)
-    } else {
-        let place = q.saturating_sub(1) / 15 % (u32::from(groups) + 1);
-        in_group(&segments.places[place as usize], q)
-    }
-}
-
-// Puts what is known of a number into its slot; the lowest number of which nothing is known is missing.
-fn put(
-    entries: &mut [Option<Trailer>; SLOTS],
-    missing: &mut Option<u32>,
-    frames: u16,
-    q: u32,
-    found: Option<Trailer>,
-)
-    requires { (1 ≤ frames) × (frames ≤ 210) }
-    ensures { outcome frames missing.new entries.new
-        ≡ placed_in frames found q (outcome frames missing.old entries.old) }
-{
-    match found {
-        None => *missing = Some(q),
-        Some(_) => entries[usize::from(slot(q, frames))] = found,
-    }
-}
-
 // No entry in any slot.
+#[tactic(auto, unfolding(rules::specs::Recovery::no_entries))]
 pub fn no_entries() -> [Option<Trailer>; SLOTS]
     ensures { result ≡ no_entries }
 {
     [None; SLOTS]
 }
 
-// The entries of so many numbers up to the last, from the highest down; the lowest that is described nowhere is
-// foreign.
-pub(crate) fn gather(
-    segments: &Segments,
-    groups: u16,
-    tail: &Tail,
-    base: u32,
-    last: u32,
-    live: u16,
-) -> Result<[Option<Trailer>; SLOTS], Fault>
-    requires groups { (1 ≤ groups) × (groups ≤ 14) }
-    requires tail { tail.now.count ≤ 15 }
-    requires last { (last ≤ 4000000015) × (live ≤ last) }
-    ensures { result ≡ gathered groups (table_said groups segments.now.places) base
-        (take tail.now.count tail.now.trailers) live (last + 1 - live) }
-{
-    let frames = GROUP * groups;
-    let mut entries = no_entries();
-    let mut missing = None;
-    for i in 0..live {
-        let q = last - u32::from(i);
-        let found = described(segments, groups, tail, base, q);
-        put(&mut entries, &mut missing, frames, q, found);
+impl Segments {
+    // What the page in a place says.
+    fn at(&self, place: usize) -> Option<Summary>
+        ensures { result ≡ slice_index_or self.now.places.items place None }
+    {
+        self.places.get(place).copied().flatten()
     }
-    match missing {
-        None => Ok(entries),
-        Some(q) => Err(Fault::touched(Refusal::Foreign, Side::Flash, slot(q, frames))),
+
+    // The trailer of a number, if the segment of its group was found.
+    fn trailer_of(&self, shape: Shape, q: u32) -> Option<Trailer>
+        requires { q ≤ 4000000015 }
+        ensures { result ≡ of_group q (slice_index_or (map all_said self.now.places.items)
+            ((q - 1) / 15 % (shape.groups + 1)) None) }
+    {
+        let before = q.saturating_sub(1);
+        let place = before / 15 % u32::from(shape.segment_pages());
+        let segment = self.at(place as usize)?;
+        if segment.last != 15 * (before / 15) + 15 {
+            return None;
+        }
+        Some(segment.entries[(before % 15) as usize])
+    }
+}
+
+impl Scan {
+    // What the tail says of a number after the newest segment's, and the segments of one before.
+    fn described(&self, q: u32) -> Option<Trailer>
+        requires { q ≤ 4000000015 }
+        ensures { result ≡ described_in self.now.shape.groups (pages self.now) (last_of (newest self.now))
+            (tail self.now).trailers q }
+    {
+        let base = self.segments.last();
+        if q > base {
+            self.tail.get((q - base - 1) as usize).copied()
+        } else {
+            self.segments.trailer_of(self.shape, q)
+        }
+    }
+
+    // The entries of the live numbers; the lowest that is described nowhere is foreign.
+    pub(crate) fn entries(&self) -> Result<[Option<Trailer>; SLOTS], Fault>
+        ensures { result ≡ gathered self.now.shape.groups (pages self.now) (last_of (newest self.now))
+            (tail self.now).trailers (last self.now + 1 - front self.now) (front self.now) }
+    {
+        let mut entries = no_entries();
+        for q in self.front()..self.last() + 1 {
+            let frame = self.shape.frame_of(q);
+            let foreign = Fault::touched(Refusal::Foreign, Side::Flash, frame);
+            let trailer = self.described(q).ok_or(foreign)?;
+            entries[usize::from(frame)] = Some(trailer);
+        }
+        Ok(entries)
     }
 }

@@ -1,9 +1,10 @@
 #![tactic(auto)]
 
-mod assemble;
 pub mod directory;
 pub mod page;
 pub mod places;
 pub mod recovered;
+mod scan;
 mod segments;
+mod shape;
 mod tail;

@@ -15,12 +15,7 @@ pub fn look<M: Medium>(medium: &mut M, on: Side, page: u16) -> Result<Option<[u8
     let mut bytes = [0u8; PAGE];
     match medium.read(page, &mut bytes) {
         Ok(()) => Ok(Some(bytes)),
-        Err(cause) => {
-            if let Cause::Dark = cause {
-                Err(Fault::touched(Refusal::Dark, on, page))
-            } else {
-                Ok(None)
-            }
-        }
+        Err(Cause::Dark) => Err(Fault::touched(Refusal::Dark, on, page)),
+        Err(Cause::Outside | Cause::Length | Cause::Unreadable) => Ok(None),
     }
 }

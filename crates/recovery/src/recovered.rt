@@ -2,17 +2,15 @@ ghost use Rattle.std.specs.Prelude.{◌≡◌, ◌≤◌, IfOk};
 ghost use Rattle.rules.specs.Queue.{groups};
 ghost use Rattle.recovery.specs.Reread.{reread};
 
-use crate::assemble::{assemble, last_of};
-use crate::places::{GROUP, SLOTS, groups_of};
+use crate::places::SLOTS;
+use crate::scan::Scan;
 use crate::segments::read_segments;
+use crate::shape::Shape;
 use crate::tail::read_tail;
 use medium::Medium;
 use rules::fault::{Fault, Refusal};
 use rules::state::Mounted;
 use rules::trailer::Trailer;
-
-// The most groups that the directory has slots for.
-const MOST_GROUPS: u16 = 14;
 
 // What was read back: what a mount answers, the front, the directory, and how many frames of the tail were accepted.
 #[derive(Clone, Copy)]
@@ -34,11 +32,13 @@ pub fn read_back<F: Medium>(flash: &mut F, pages: u16) -> Result<Recovered, Faul
         → result ≡ reread (F.Medium.means flash.old) pages }
     ensures most { IfOk result (λ r. r.found.last ≤ 4000000000) }
 {
-    let s = groups_of(flash.size());
-    if s < 1 || s > MOST_GROUPS {
-        return Err(Fault::plain(Refusal::Size));
-    }
-    let segments = read_segments(flash, s, pages)?;
-    let tail = read_tail(flash, GROUP * s, last_of(&segments.newest), pages)?;
-    assemble(s, &segments, &tail)
+    let shape = Shape::of(flash.size(), pages).ok_or(Fault::plain(Refusal::Size))?;
+    let segments = read_segments(flash, shape)?;
+    let tail = read_tail(flash, shape, segments.last())?;
+    let scan = Scan {
+        shape,
+        segments,
+        tail,
+    };
+    scan.recovered()
 }

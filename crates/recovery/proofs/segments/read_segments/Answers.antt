@@ -1,47 +1,37 @@
-use Rattle.std.proofs.Common.{◌≡◌, ◌+◌, ◌-◌, map, take, set, Ok, sym, ap, ◌∙◌, arith, length-set}
+use Rattle.std.proofs.Common.{◌+◌, ◌-◌, map, sym, ap, ◌∙◌, arith}
+use Rattle.std.proofs.lemmas.List.{map_push}
 use Rattle.std.proofs.lemmas.Result.{err_from_is_err_and}
 use Rattle.rules.specs.Queue.{groups}
 use Rattle.rules.specs.Recovery.{read_segments, later, newest}
 use Rattle.format.specs.Segments.{all_said}
-use Rattle.recovery.proofs.SegmentPages.{ahead, newest_push, table_more, read_more, read_fails, read_all}
+use Rattle.recovery.proofs.SegmentPages.{ahead, newest_push, read_more, read_fails, read_all}
 use Rattle.recovery.proofs.segments.read_segments.Goals as goal
 
-pub returns-in_err-segment : goal.returns-in_err-segment
-returns-in_err-segment g c =
+pub returns-in_err-segment-clause-found : goal.returns-in_err-segment-clause-found
+returns-in_err-segment-clause-found g c = λ ok few.
     let m = g.F.Medium.means c.args.flash.now in
-    let p = c.args.pages in
-    let n = c.args.groups + 1 in
+    let p = c.args.shape.pages in
+    let n = c.args.shape.groups + 1 in
     let i = c.loop-place.place in
     let inv = c.loop-place.invariant in
-    let gs = map all_said (take i c.loop-place.places) in
-    let e = c.in_err-segment.field-0.0 in
+    let gs = map all_said c.loop-place.places.items in
     let was = err_from_is_err_and c.from_residual.result c.from_residual.ensures.1 in
+    let here = c.in_err-segment.ensures.found (inv.3 ok) (ap groups (inv.4 ok) ∙ few) in
     rw (was.1, was.2)
-    (record {
-      keeps = λ ok. c.read_one.ensures.keeps (inv.3 ok);
-      same = λ ok. c.read_one.ensures.same (inv.3 ok) ∙ inv.4 ok;
-      found =
-          λ ok few.
-          let here = c.in_err-segment.ensures.found (inv.3 ok) (ap groups (inv.4 ok) ∙ few) in
-          sym (read_fails m p n i gs (read_segments m p n 0) (inv.5 ok few) _ (inv.4 ok) e (omega arith) here);
-      newest = tt;
-      most = tt;
-    })
+    (sym (read_fails m p n i gs (read_segments m p n 0) (inv.5 ok few) _ (inv.4 ok) c.in_err-segment.field-0.0 (omega arith) here))
 
 pub loop-place-preserved : goal.loop-place-preserved
 loop-place-preserved g c =
     let m = g.F.Medium.means c.args.flash.now in
-    let p = c.args.pages in
-    let n = c.args.groups + 1 in
+    let p = c.args.shape.pages in
+    let n = c.args.shape.groups + 1 in
     let i = c.loop-place.place in
-    let os = c.loop-place.places in
+    let os = c.loop-place.places.items in
     let o = c.in_ok-segment.segment in
-    let gs = map all_said (take i os) in
+    let gs = map all_said os in
     let inv = c.loop-place.invariant in
-    let at : c.from.result ≡ i = cc in
-    let table : map all_said (take (i + 1) (set os c.from.result o)) ≡ _ =
-    ap (λ k. map all_said (take (i + 1) (set os k o))) at ∙ table_more os i o (omega arith) in (
-      length-set os c.from.result o ∙ inv.0,
+    let table = ap (map all_said) c.push.ensures.items ∙ map_push all_said os o in (
+      c.push.ensures.len ∙ ap (λ k. k + 1) inv.0,
       c.newer-newest.ensures.most inv.1 c.in_ok-segment.ensures.most,
       c.newer-newest.ensures.exact
           ∙ ap (λ x. later x (all_said o)) inv.2
@@ -56,22 +46,10 @@ loop-place-preserved g c =
           ∙ ap (λ hs. ahead hs (read_segments m p (n - (i + 1)) (i + 1))) (sym table),
     )
 
-pub returns : goal.returns
-returns g c =
+pub returns-clause-found : goal.returns-clause-found
+returns-clause-found g c = λ ok few.
     let m = g.F.Medium.means c.args.flash.now in
-    let p = c.args.pages in
-    let n = c.args.groups + 1 in
+    let p = c.args.shape.pages in
+    let n = c.args.shape.groups + 1 in
     let i = c.loop-place.place in
-    let os = c.loop-place.places in
-    let inv = c.loop-place.invariant in
-    let end : i ≡ n = omega arith in
-    let all = ap (λ k. map all_said (take k os)) end in
-    record {
-      keeps = inv.3;
-      same = inv.4;
-      found =
-          λ ok few.
-          sym (read_all m p n i _ (read_segments m p n 0) (inv.5 ok few) end ∙ ap Ok all);
-      newest = inv.2 ∙ ap newest all;
-      most = inv.1;
-    }
+    sym (read_all m p n i _ (read_segments m p n 0) (c.loop-place.invariant.5 ok few) (omega arith))
