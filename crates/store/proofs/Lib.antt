@@ -4,6 +4,7 @@ pub mod Free
 pub mod Hearing
 pub mod Leaving
 pub mod Mounting
+pub mod Numbers
 pub mod Orders
 pub mod Saving
 pub mod Strikes

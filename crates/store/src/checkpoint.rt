@@ -4,14 +4,14 @@ ghost use Rattle.rules.specs.Store.{save_all, saved};
 ghost use Rattle.store.specs.View.{Works, answered};
 ghost use Rattle.store.specs.Parts.{save_frame};
 
+use crate::frame::Frame;
 use crate::store::Store;
 use medium::Medium;
 use rules::fault::Fault;
 
 impl<F: Medium, D: Medium> Store<F, D> {
     // Enqueues the page of a frame, whose flash copy is then as new.
-    fn save(&mut self, frame: u8) -> Result<(), Fault>
-        requires { frame < 16 }
+    fn save(&mut self, frame: Frame) -> Result<(), Fault>
         ensures { Works F.Medium D.Medium self.old self.new result
             (λ x. save_frame x frame) }
     {
@@ -30,8 +30,8 @@ impl<F: Medium, D: Medium> Store<F, D> {
     {
         let count = self.frames.count();
         let mut saved = 0;
-        for frame in 0..count {
-            if self.frames.is_newer(frame) {
+        for number in 0..count {
+            if let Some(frame) = self.frames.newer(number) {
                 self.save(frame)?;
                 saved += 1;
             }

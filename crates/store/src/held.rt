@@ -9,6 +9,7 @@ use crate::store::{MOST, Store};
 use format::page::BODY;
 use medium::Medium;
 use rules::fault::{Fault, Refusal};
+use rules::table::Grant;
 
 // Read, write and give back want the frame's hold.
 impl<F: Medium, D: Medium> Store<F, D> {
@@ -18,10 +19,7 @@ impl<F: Medium, D: Medium> Store<F, D> {
             (λ x. read_up x hold.now.grant.frame hold.now.grant.number (length into.old)) }
         ensures untouched { (e : Fault) → result ≡ Err e → into.new ≡ into.old }
     {
-        let frame = hold.grant.frame;
-        if !self.frames.is_held(frame, hold.grant.number) {
-            return Err(Fault::plain(Refusal::Stale));
-        }
+        let frame = self.frames.held(hold.grant)?;
         if into.len() != BODY {
             return Err(Fault::plain(Refusal::Length));
         }
@@ -41,10 +39,7 @@ impl<F: Medium, D: Medium> Store<F, D> {
             → Works F.Medium D.Medium self.old self.new (answered wrote result)
             (λ x. write_up x hold.now.grant.frame hold.now.grant.number offset bytes.now) }
     {
-        let frame = hold.grant.frame;
-        if !self.frames.is_held(frame, hold.grant.number) {
-            return Err(Fault::plain(Refusal::Stale));
-        }
+        let frame = self.frames.held(hold.grant)?;
         if offset > BODY || bytes.len() > BODY - offset {
             return Err(Fault::plain(Refusal::Length));
         }
@@ -56,13 +51,11 @@ impl<F: Medium, D: Medium> Store<F, D> {
         Ok(version + 1)
     }
 
-    pub(crate) fn give_up(&mut self, frame: u8, number: u32) -> Result<(), Fault>
+    pub(crate) fn give_up(&mut self, grant: Grant) -> Result<(), Fault>
         ensures { Works F.Medium D.Medium self.old self.new (answered (λ _. given) result)
-            (λ x. give_up x frame number) }
+            (λ x. give_up x grant.frame grant.number) }
     {
-        if !self.frames.is_held(frame, number) {
-            return Err(Fault::plain(Refusal::Stale));
-        }
+        let frame = self.frames.held(grant)?;
         self.frames.release(frame);
         Ok(())
     }

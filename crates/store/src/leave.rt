@@ -7,6 +7,7 @@ ghost use Rattle.rules.specs.Store.{empty_frame, enqueue_frame, must_go};
 ghost use Rattle.queue.specs.View as queue;
 ghost use Rattle.store.specs.View.{Works, Beside, view, ram_of};
 
+use crate::frame::Frame;
 use crate::store::Store;
 use medium::Medium;
 use rules::fault::{Fault, Refusal};
@@ -26,8 +27,7 @@ pub(crate) fn heard(on: &mut State, fault: Fault) -> Fault
 
 impl<F: Medium, D: Medium> Store<F, D> {
     // Gives the page of a frame to the queue; the frame stays as it is.
-    fn hand_over(&mut self, frame: u8, page: u16) -> Result<(), Fault>
-        requires { frame < 16 }
+    fn hand_over(&mut self, frame: Frame, page: u16) -> Result<(), Fault>
         ensures queued { queue.Does F.Medium D.Medium self.old.queue self.new.queue result
             (λ y. enqueue y page (card_at (ram_of self.old.frames) frame).version
             (card_at (ram_of self.old.frames) frame).dirty
@@ -40,8 +40,7 @@ impl<F: Medium, D: Medium> Store<F, D> {
     }
 
     // Enqueues the page of a frame.
-    pub(crate) fn enqueue_frame(&mut self, frame: u8, page: u16) -> Result<(), Fault>
-        requires { frame < 16 }
+    pub(crate) fn enqueue_frame(&mut self, frame: Frame, page: u16) -> Result<(), Fault>
         ensures { Works F.Medium D.Medium self.old self.new result
             (λ x. enqueue_frame x frame page) }
     {
@@ -59,8 +58,7 @@ impl<F: Medium, D: Medium> Store<F, D> {
     }
 
     // Takes the page out of a frame, by way of the flash if it must.
-    pub(crate) fn empty_frame(&mut self, frame: u8) -> Result<(), Fault>
-        requires { frame < 16 }
+    pub(crate) fn empty_frame(&mut self, frame: Frame) -> Result<(), Fault>
         ensures { Works F.Medium D.Medium self.old self.new result
             (λ x. empty_frame x frame) }
     {

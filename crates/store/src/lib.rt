@@ -4,6 +4,7 @@ mod admit;
 mod calls;
 mod checkpoint;
 mod fetch;
+mod frame;
 mod frames;
 mod held;
 pub mod hold;

@@ -59,7 +59,7 @@ impl<F: Medium, D: Medium> Store<F, D> {
     {
         let grant = hold.spend();
         admit(self.state, Asked::Service)?;
-        self.give_up(grant.frame, grant.number)
+        self.give_up(grant)
     }
 
     pub(crate) fn serve_checkpoint(&mut self) -> Result<u32, Fault>

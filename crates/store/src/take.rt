@@ -3,6 +3,7 @@ ghost use Rattle.rules.specs.Store.{bring, hold_frame, take_of, take_up};
 ghost use Rattle.rules.specs.Ram.{last_free};
 ghost use Rattle.store.specs.View.{Works, answered, granted};
 
+use crate::frame::Frame;
 use crate::hold::Hold;
 use crate::store::{MOST, Store};
 use medium::Medium;
@@ -11,8 +12,7 @@ use rules::table::Grant;
 
 impl<F: Medium, D: Medium> Store<F, D> {
     // Holds a frame under the next number.
-    fn hold_frame(&mut self, frame: u8, number: u32, evicted: Option<u16>) -> Hold
-        requires frame { frame < 16 }
+    fn hold_frame(&mut self, frame: Frame, number: u32, evicted: Option<u16>) -> Hold
         requires number { number ≤ 4000000000 }
         ensures { number ≡ self.old.holds + 1
             → Works F.Medium D.Medium self.old self.new (Ok (granted result))
@@ -23,7 +23,7 @@ impl<F: Medium, D: Medium> Store<F, D> {
         self.holds = number;
         Hold {
             grant: Grant {
-                frame,
+                frame: frame.number(),
                 number,
                 version,
                 evicted,
@@ -32,8 +32,7 @@ impl<F: Medium, D: Medium> Store<F, D> {
     }
 
     // Takes a page that is in a frame.
-    fn take_in_ram(&mut self, page: u16, frame: u8) -> Result<Hold, Fault>
-        requires { frame < 16 }
+    fn take_in_ram(&mut self, page: u16, frame: Frame) -> Result<Hold, Fault>
         ensures { Works F.Medium D.Medium self.old self.new (answered granted result)
             (λ x. take_of x page (Some frame)) }
     {

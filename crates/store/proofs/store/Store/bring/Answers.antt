@@ -14,7 +14,7 @@ returns-in_err-fetch g c = λ o.
     rw (e.1, e.2) (
       kept,
       not_brought (see c.args.self.now) c.args.page c.in-Some.frame c.card-evicted.result.page
-          c.in-Some.ensures.value (omega arith) (ap (λ (k : Card). k.page) c.card-evicted.ensures)
+          c.in-Some.ensures (omega arith) (ap (λ (k : Card). k.page) c.card-evicted.ensures)
           (see c.empty_frame.new.self) out (see c.fetch.new.self) c.in_err-fetch.field-0.0 failed,
     )
 
@@ -28,7 +28,7 @@ returns g c = λ o.
     let (there, came) = c.in_ok-fetch.ensures still in
     let (kept, held) = c.hold_frame.ensures (next_hold x y z c.in-Some.frame c.args.page out came) there in (
       kept,
-      brought x c.args.page c.in-Some.frame c.card-evicted.result.page c.in-Some.ensures.value
+      brought x c.args.page c.in-Some.frame c.card-evicted.result.page c.in-Some.ensures
           (omega arith) (ap (λ (k : Card). k.page) c.card-evicted.ensures) y out z
           (see c.hold_frame.new.self) (granted c.hold_frame.result) came held,
     )

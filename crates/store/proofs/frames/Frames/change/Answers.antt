@@ -1,9 +1,0 @@
-use Rattle.std.proofs.Common.{[], arith, rules}
-use Rattle.std.proofs.lemmas.List.{get_or_default}
-use Rattle.rules.specs.Ram.{blank}
-use Rattle.store.proofs.frames.Frames.change.Goals as goal
-
-pub returns : goal.returns
-returns c =
-    let same = get_or_default c.args.self.now.bodies c.args.frame [] blank (omega arith) in
-    search rules
