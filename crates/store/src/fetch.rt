@@ -7,7 +7,7 @@ use crate::frame::Frame;
 use crate::leave::heard;
 use crate::store::Store;
 use format::page::read_trailer;
-use medium::Medium;
+use medium::{Medium, PAGE};
 use rules::fault::{Fault, Refusal, Side};
 
 impl<F: Medium, D: Medium> Store<F, D> {
@@ -18,7 +18,7 @@ impl<F: Medium, D: Medium> Store<F, D> {
     {
         let pages = self.queue.disk_pages();
         let Some(bytes) = self.queue.look_at_disk(page)? else {
-            self.frames.fill_blank(frame, page);
+            self.frames.fill(frame, page, 0, false, &[0; PAGE]);
             return Ok(());
         };
         let Some(trailer) = read_trailer(&bytes, pages) else {
@@ -53,9 +53,7 @@ impl<F: Medium, D: Medium> Store<F, D> {
         ensures { Works F.Medium D.Medium self.old self.new result
             (λ x. fetch x frame page) }
     {
-        match self.load(frame, page) {
-            Ok(()) => Ok(()),
-            Err(fault) => Err(heard(&mut self.state, fault)),
-        }
+        let answer = self.load(frame, page);
+        heard(&mut self.state, answer)
     }
 }

@@ -192,14 +192,6 @@ impl Frames {
         self.bodies[frame.place()].copy_from_slice(&from[..BODY]);
     }
 
-    // Puts a page that was never written into a frame.
-    pub(crate) fn fill_blank(&mut self, frame: Frame, page: u16)
-        ensures { Goes self.old self.new (λ m. with_frame m frame (fetched_card page 0 false) blank) }
-    {
-        self.cards[frame.place()] = fetched(page, 0, false);
-        self.bodies[frame.place()] = [0; BODY];
-    }
-
     // Writes bytes into a body from an offset on.
     pub(crate) fn change(&mut self, frame: Frame, offset: usize, bytes: &[u8])
         requires fits { offset + length bytes.now ≤ 240 }

@@ -5,11 +5,12 @@ ghost use Rattle.queue.specs.View as queue;
 ghost use Rattle.store.specs.View.{Works, answered, ram_of};
 
 use crate::hold::Hold;
-use crate::store::{MOST, Store};
+use crate::store::Store;
 use format::page::BODY;
 use medium::Medium;
 use rules::fault::{Fault, Refusal};
 use rules::table::Grant;
+use rules::trailer::MOST;
 
 // Read, write and give back want the frame's hold.
 impl<F: Medium, D: Medium> Store<F, D> {

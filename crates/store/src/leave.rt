@@ -1,10 +1,9 @@
-ghost use Rattle.std.specs.Prelude.{◌≡◌, ◌<◌, if◌then◌else◌};
-ghost use Rattle.rules.specs.declared.state.State.TheVariants as state;
-ghost use Rattle.rules.specs.Refusals.{is_dark};
+ghost use Rattle.std.specs.Prelude.{◌≡◌};
 ghost use Rattle.rules.specs.Queue.{enqueue};
 ghost use Rattle.rules.specs.Ram.{card_at, body_at};
 ghost use Rattle.rules.specs.Store.{empty_frame, enqueue_frame, must_go};
 ghost use Rattle.queue.specs.View as queue;
+ghost use Rattle.store.specs.Parts.{state_after};
 ghost use Rattle.store.specs.View.{Works, Beside, view, ram_of};
 
 use crate::frame::Frame;
@@ -15,14 +14,18 @@ use rules::state::State;
 use rules::table::Card;
 
 // A store is dark once a medium answered dark.
-pub(crate) fn heard(on: &mut State, fault: Fault) -> Fault
-    ensures value { result ≡ fault }
-    ensures after { on.new ≡ (if is_dark fault.cause then state.Dark else on.old) }
+pub(crate) fn heard<T>(on: &mut State, answer: Result<T, Fault>) -> Result<T, Fault>
+    ensures value { result ≡ answer }
+    ensures after { on.new ≡ state_after answer on.old }
 {
-    if let Refusal::Dark = fault.cause {
+    if let Err(Fault {
+        cause: Refusal::Dark,
+        place: _,
+    }) = answer
+    {
         *on = State::Dark;
     }
-    fault
+    answer
 }
 
 impl<F: Medium, D: Medium> Store<F, D> {
@@ -44,10 +47,8 @@ impl<F: Medium, D: Medium> Store<F, D> {
         ensures { Works F.Medium D.Medium self.old self.new result
             (λ x. enqueue_frame x frame page) }
     {
-        match self.hand_over(frame, page) {
-            Ok(()) => Ok(()),
-            Err(fault) => Err(heard(&mut self.state, fault)),
-        }
+        let answer = self.hand_over(frame, page);
+        heard(&mut self.state, answer)
     }
 
     // Whether a page that leaves RAM has to be enqueued: its flash copy is older or, being written at all, it has none.

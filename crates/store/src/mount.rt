@@ -36,10 +36,7 @@ impl<F: Medium, D: Medium> Store<F, D> {
         if !are_fitting(frames, self.queue.flash_pages(), self.queue.disk_pages()) {
             return Err(Fault::plain(Refusal::Size));
         }
-        let found = match self.queue.recover() {
-            Ok(found) => found,
-            Err(fault) => return Err(heard(&mut self.state, fault)),
-        };
+        let found = heard(&mut self.state, self.queue.recover())?;
         self.frames = Frames::fresh(frames as u8);
         self.state = State::Up;
         Ok(found)

@@ -1,19 +1,34 @@
-ghost use Rattle.std.specs.Prelude.{◌≡◌, ◌+◌, ◌<◌, ◌≤◌, Some, None, Ok};
+ghost use Rattle.std.specs.Prelude.{◌≡◌, ◌+◌, ◌≤◌, ◌==◌, Some, None, Ok, Err, IfOk, if◌then◌else◌};
+ghost use Rattle.rules.specs.declared.fault.Refusal.TheVariants as refusal;
+ghost use Rattle.rules.specs.Format.{most};
+ghost use Rattle.rules.specs.Refusals.{plain};
 ghost use Rattle.rules.specs.Store.{bring, hold_frame, take_of, take_up};
 ghost use Rattle.rules.specs.Ram.{last_free};
 ghost use Rattle.store.specs.View.{Works, answered, granted};
 
 use crate::frame::Frame;
 use crate::hold::Hold;
-use crate::store::{MOST, Store};
+use crate::store::Store;
 use medium::Medium;
 use rules::fault::{Fault, Refusal};
 use rules::table::Grant;
+use rules::trailer::MOST;
 
 impl<F: Medium, D: Medium> Store<F, D> {
+    // The number of the next hold.
+    fn next_number(&self) -> Result<u32, Fault>
+        ensures value { result ≡ (if self.now.holds == most then Err (plain refusal.Spent) else Ok (self.now.holds + 1)) }
+        ensures within { IfOk result (λ n. n ≤ most) }
+    {
+        if self.holds == MOST {
+            return Err(Fault::plain(Refusal::Spent));
+        }
+        Ok(self.holds + 1)
+    }
+
     // Holds a frame under the next number.
     fn hold_frame(&mut self, frame: Frame, number: u32, evicted: Option<u16>) -> Hold
-        requires number { number ≤ 4000000000 }
+        requires { number ≤ most }
         ensures { number ≡ self.old.holds + 1
             → Works F.Medium D.Medium self.old self.new (Ok (granted result))
             (λ x. hold_frame x frame evicted) }
@@ -39,10 +54,8 @@ impl<F: Medium, D: Medium> Store<F, D> {
         if self.frames.card(frame).hold != 0 {
             return Err(Fault::plain(Refusal::Held));
         }
-        if self.holds == MOST {
-            return Err(Fault::plain(Refusal::Spent));
-        }
-        Ok(self.hold_frame(frame, self.holds + 1, None))
+        let number = self.next_number()?;
+        Ok(self.hold_frame(frame, number, None))
     }
 
     // Takes a page that is in no frame: the last unheld one is emptied for it.
@@ -53,10 +66,7 @@ impl<F: Medium, D: Medium> Store<F, D> {
         let Some(frame) = self.frames.last_free() else {
             return Err(Fault::plain(Refusal::AllHeld));
         };
-        if self.holds == MOST {
-            return Err(Fault::plain(Refusal::Spent));
-        }
-        let number = self.holds + 1;
+        let number = self.next_number()?;
         let evicted = self.frames.card(frame).page;
         self.empty_frame(frame)?;
         self.fetch(frame, page)?;
