@@ -1,6 +1,5 @@
 -- A page that leaves its frame, by what the steps give.
-use Rattle.std.proofs.Common.{◌≡◌, ℕ, Bool, true, false, cond, [], Some, None, Ok, Err, Option, Result, sym, refl, subst}
-use Rattle.medium.specs.Meaning.{Bytes}
+use Rattle.std.proofs.Common.{◌≡◌, ℕ, Bool, true, false, cond, [], Some, None, Ok, Option, Result, sym, refl, subst}
 use Rattle.medium.specs.Outcome.{Gives, done}
 use Rattle.rules.specs.declared.fault.Fault.{Fault}
 use Rattle.rules.specs.declared.state.State.{State}

@@ -1,5 +1,5 @@
 -- A page that is brought into RAM and held, by what the steps give.
-use Rattle.std.proofs.Common.{◌≡◌, ℕ, ◌+◌, ◌<◌, Bool, true, false, cond, eqb, [], take, Some, None, Ok, Err, Option, Result, sym, refl, ap, ◌∙◌, subst, arith}
+use Rattle.std.proofs.Common.{◌≡◌, ℕ, ◌+◌, Bool, true, false, cond, eqb, [], take, Some, None, Ok, Err, Option, Result, sym, refl, ap, ◌∙◌, subst, arith}
 use Rattle.medium.specs.Meaning.{Bytes, Page, size, page}
 use Rattle.medium.specs.Outcome.{Outcome, Gives, done, refused, struck}
 use Rattle.rules.specs.declared.fault.Fault.{Fault}

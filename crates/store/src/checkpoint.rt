@@ -1,9 +1,10 @@
 ghost use Rattle.std.specs.Prelude.{◌<◌};
 ghost use Rattle.rules.specs.Ram.{card_at};
-ghost use Rattle.rules.specs.Store.{save_all, saved};
-ghost use Rattle.store.specs.View.{Works, answered};
+ghost use Rattle.rules.specs.Store.{checkpoint as checkpoint_call, save_all, saved};
+ghost use Rattle.store.specs.View.{Does, Works, answered};
 ghost use Rattle.store.specs.Parts.{save_frame};
 
+use crate::admit::may_serve;
 use crate::frame::Frame;
 use crate::store::Store;
 use medium::Medium;
@@ -24,7 +25,7 @@ impl<F: Medium, D: Medium> Store<F, D> {
     }
 
     // Saves each frame that is newer than its flash copy, from frame 0 up.
-    pub(crate) fn save_all(&mut self) -> Result<u32, Fault>
+    fn save_all(&mut self) -> Result<u32, Fault>
         ensures { Works F.Medium D.Medium self.old self.new (answered saved result)
             (λ x. save_all x.ram.count x 0 0) }
     {
@@ -37,5 +38,13 @@ impl<F: Medium, D: Medium> Store<F, D> {
             }
         }
         Ok(saved)
+    }
+
+    pub(crate) fn serve_checkpoint(&mut self) -> Result<u32, Fault>
+        ensures { Does F.Medium D.Medium self.old self.new (answered saved result)
+            checkpoint_call }
+    {
+        may_serve(self.state)?;
+        self.save_all()
     }
 }

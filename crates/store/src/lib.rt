@@ -11,6 +11,5 @@ pub mod hold;
 mod leave;
 mod mount;
 mod recency;
-mod serve;
 pub mod store;
 mod take;

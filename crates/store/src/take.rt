@@ -2,10 +2,11 @@ ghost use Rattle.std.specs.Prelude.{◌≡◌, ◌+◌, ◌≤◌, ◌==◌, Som
 ghost use Rattle.rules.specs.declared.fault.Refusal.TheVariants as refusal;
 ghost use Rattle.rules.specs.Format.{most};
 ghost use Rattle.rules.specs.Refusals.{plain};
-ghost use Rattle.rules.specs.Store.{bring, hold_frame, take_of, take_up};
+ghost use Rattle.rules.specs.Store.{bring, hold_frame, take_of, take_page};
 ghost use Rattle.rules.specs.Ram.{last_free};
-ghost use Rattle.store.specs.View.{Works, answered, granted};
+ghost use Rattle.store.specs.View.{Does, Works, answered, granted};
 
+use crate::admit::may_serve;
 use crate::frame::Frame;
 use crate::hold::Hold;
 use crate::store::Store;
@@ -73,11 +74,11 @@ impl<F: Medium, D: Medium> Store<F, D> {
         Ok(self.hold_frame(frame, number, evicted))
     }
 
-    // Takes a page of a store in service.
-    pub(crate) fn take_up(&mut self, page: u32) -> Result<Hold, Fault>
-        ensures { Works F.Medium D.Medium self.old self.new (answered granted result)
-            (λ x. take_up x page) }
+    pub(crate) fn serve_take(&mut self, page: u32) -> Result<Hold, Fault>
+        ensures { Does F.Medium D.Medium self.old self.new (answered granted result)
+            (take_page page) }
     {
+        may_serve(self.state)?;
         if page >= u32::from(self.queue.disk_pages()) {
             return Err(Fault::plain(Refusal::NoPage));
         }
