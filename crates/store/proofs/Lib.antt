@@ -7,5 +7,6 @@ pub mod Mounting
 pub mod Numbers
 pub mod Orders
 pub mod Saving
+pub mod Slots
 pub mod Strikes
 pub mod Taking

@@ -2,62 +2,24 @@ ghost use Rattle.std.specs.Prelude.{◌≡◌, ◌+◌, ◌<◌, ◌≤◌, true
 ghost use Rattle.rules.specs.declared.fault.Refusal.TheVariants as refusal;
 ghost use Rattle.rules.specs.Refusals.{plain};
 ghost use Rattle.rules.specs.Ram.{empty as empty_card, fetched as fetched_card, held_card, cleaned, changed};
-ghost use Rattle.rules.specs.Ram.{fresh as fresh_ram, blank, put as with_bytes, with_card, with_frame, to_head};
+ghost use Rattle.rules.specs.Ram.{fresh as fresh_ram, put as with_bytes, with_card, with_frame, to_head};
 ghost use Rattle.rules.specs.Ram.{card_at, body_at, in_ram, is_free, last_free, is_held};
 ghost use Rattle.store.specs.View.{ram_of, Goes};
 
 use crate::frame::{FRAMES, Frame};
 use crate::recency::Recency;
+use crate::slot::{EMPTY, Slot, UNUSED};
 use format::page::BODY;
 use medium::PAGE;
+use ranked::highest;
 use rules::fault::{Fault, Refusal};
 use rules::table::{Card, Grant};
 
-const EMPTY: Card = Card {
-    page: None,
-    version: 0,
-    dirty: false,
-    fdirty: false,
-    hold: 0,
-};
-
-// The card of a page just fetched.
-fn fetched(page: u16, version: u32, dirty: bool) -> Card
-    ensures { result ≡ fetched_card page version dirty }
-{
-    Card {
-        page: Some(page),
-        version,
-        dirty,
-        fdirty: false,
-        hold: 0,
-    }
-}
-
-// A write leaves the page one version on, and newer than its copies.
-fn age(card: &mut Card)
-    requires { card.old.version < 4000000000 }
-    ensures { card.new ≡ changed card.old }
-{
-    card.version += 1;
-    card.dirty = true;
-    card.fdirty = true;
-}
-
-// Puts bytes into a body from an offset on.
-fn put(body: &mut [u8], offset: usize, bytes: &[u8])
-    requires { offset + length bytes.now ≤ length body.old }
-    ensures { body.new ≡ with_bytes body.old offset bytes.now }
-{
-    body[offset..offset + bytes.len()].copy_from_slice(bytes);
-}
-
-// The RAM frames: a card and a body for each of sixteen, of which `count` are in use.
+// The RAM frames: sixteen, of which `count` are in use.
 #[derive(Drop)]
 pub struct Frames {
     pub(crate) count: u8,
-    pub(crate) cards: [Card; FRAMES],
-    pub(crate) bodies: [[u8; BODY]; FRAMES],
+    pub(crate) slots: [Slot; FRAMES],
     pub(crate) recency: Recency,
 }
 
@@ -68,8 +30,7 @@ impl Frames {
     {
         Frames {
             count,
-            cards: [EMPTY; FRAMES],
-            bodies: [[0; BODY]; FRAMES],
+            slots: [UNUSED; FRAMES],
             recency: Recency::new(),
         }
     }
@@ -77,13 +38,13 @@ impl Frames {
     pub(crate) fn card(&self, frame: Frame) -> Card
         ensures { result ≡ card_at (ram_of self.now) frame }
     {
-        self.cards[frame.place()]
+        self.slots[frame.place()].card
     }
 
     pub(crate) fn body(&self, frame: Frame) -> &[u8; BODY]
         ensures { result.now ≡ body_at (ram_of self.now) frame }
     {
-        &self.bodies[frame.place()]
+        &self.slots[frame.place()].body
     }
 
     // How many are in use.
@@ -97,14 +58,14 @@ impl Frames {
     pub(crate) fn frame_of(&self, page: u16) -> Option<Frame>
         ensures { result ≡ in_ram (ram_of self.now) page }
     {
-        ranked::frame_of(&self.cards, page).and_then(Frame::new)
+        highest(&self.slots, page).and_then(Frame::new)
     }
 
     // Whether a frame is in use and nobody holds it.
     fn is_free(&self, frame: Frame) -> bool
         ensures { result ≡ is_free (ram_of self.now) frame }
     {
-        frame.number() < self.count && self.cards[frame.place()].hold == 0
+        frame.number() < self.count && self.card(frame).hold == 0
     }
 
     // The last free frame of a list.
@@ -129,7 +90,7 @@ impl Frames {
     fn is_held(&self, frame: Frame, number: u32) -> bool
         ensures { result ≡ is_held (ram_of self.now) frame number }
     {
-        frame.number() < self.count && number > 0 && self.cards[frame.place()].hold == number
+        frame.number() < self.count && number > 0 && self.card(frame).hold == number
     }
 
     // The frame of a hold, which may be stale.
@@ -145,35 +106,57 @@ impl Frames {
     pub(crate) fn newer(&self, number: u8) -> Option<Frame>
         ensures { result ≡ (if (card_at (ram_of self.now) number).fdirty then Some number else None) }
     {
-        Frame::new(usize::from(number)).filter(|frame| self.cards[frame.place()].fdirty)
+        Frame::new(usize::from(number)).filter(|frame| self.card(*frame).fdirty)
+    }
+
+    // Writes a frame's card anew.
+    fn put_card(&mut self, frame: Frame, card: Card)
+        ensures { Goes self.old self.new (λ m. with_card m frame card) }
+    {
+        self.slots[frame.place()].card = card;
     }
 
     // Lets a frame go.
     pub(crate) fn release(&mut self, frame: Frame)
         ensures { Goes self.old self.new (λ m. with_card m frame (held_card (card_at m frame) 0)) }
     {
-        self.cards[frame.place()].hold = 0;
+        let card = self.card(frame);
+        self.put_card(frame, Card { hold: 0, ..card });
     }
 
     // The flash copy is as new as the frame.
     pub(crate) fn clean(&mut self, frame: Frame)
         ensures { Goes self.old self.new (λ m. with_card m frame (cleaned (card_at m frame))) }
     {
-        self.cards[frame.place()].fdirty = false;
+        let card = self.card(frame);
+        self.put_card(
+            frame,
+            Card {
+                fdirty: false,
+                ..card
+            },
+        );
     }
 
     // Takes the page out of a frame.
     pub(crate) fn empty(&mut self, frame: Frame)
         ensures { Goes self.old self.new (λ m. with_card m frame empty_card) }
     {
-        self.cards[frame.place()] = EMPTY;
+        self.put_card(frame, EMPTY);
     }
 
     // Holds a frame under a number.
     pub(crate) fn hold(&mut self, frame: Frame, number: u32)
         ensures { Goes self.old self.new (λ m. to_head (with_card m frame (held_card (card_at m frame) number)) frame) }
     {
-        self.cards[frame.place()].hold = number;
+        let card = self.card(frame);
+        self.put_card(
+            frame,
+            Card {
+                hold: number,
+                ..card
+            },
+        );
         self.recency.to_head(frame);
     }
 
@@ -188,8 +171,7 @@ impl Frames {
     )
         ensures { Goes self.old self.new (λ m. with_frame m frame (fetched_card page version dirty) (take 240 from.now)) }
     {
-        self.cards[frame.place()] = fetched(page, version, dirty);
-        self.bodies[frame.place()].copy_from_slice(&from[..BODY]);
+        self.slots[frame.place()] = Slot::fetched(page, version, dirty, from);
     }
 
     // Writes bytes into a body from an offset on.
@@ -198,7 +180,6 @@ impl Frames {
         requires version { (card_at (ram_of self.old) frame).version < 4000000000 }
         ensures { Goes self.old self.new (λ m. with_frame m frame (changed (card_at m frame)) (with_bytes (body_at m frame) offset bytes.now)) }
     {
-        age(&mut self.cards[frame.place()]);
-        put(&mut self.bodies[frame.place()], offset, bytes);
+        self.slots[frame.place()].change(offset, bytes);
     }
 }

@@ -11,5 +11,6 @@ pub mod hold;
 mod leave;
 mod mount;
 mod recency;
+mod slot;
 pub mod store;
 mod take;
