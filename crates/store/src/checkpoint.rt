@@ -1,5 +1,3 @@
-ghost use Rattle.std.specs.Prelude.{◌<◌};
-ghost use Rattle.rules.specs.Ram.{card_at};
 ghost use Rattle.rules.specs.Store.{checkpoint as checkpoint_call, save_all, saved};
 ghost use Rattle.store.specs.View.{Does, Works, answered};
 ghost use Rattle.store.specs.Parts.{save_frame};

@@ -1,5 +1,4 @@
-ghost use Rattle.std.specs.Prelude.{◌<◌};
-ghost use Rattle.rules.specs.Store.{fetch, from_valid};
+ghost use Rattle.rules.specs.Store.{fetch};
 ghost use Rattle.store.specs.View.{Works};
 ghost use Rattle.store.specs.Parts.{from_media, disk_page};
 

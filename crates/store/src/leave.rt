@@ -18,12 +18,8 @@ pub(crate) fn heard<T>(on: &mut State, answer: Result<T, Fault>) -> Result<T, Fa
     ensures value { result ≡ answer }
     ensures after { on.new ≡ state_after answer on.old }
 {
-    if let Err(
-        Fault {
-            cause: Refusal::Dark,
-            place: _,
-        },
-    ) = answer
+    if let Err(fault) = &answer
+        && let Refusal::Dark = fault.cause
     {
         *on = State::Dark;
     }

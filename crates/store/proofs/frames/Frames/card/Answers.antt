@@ -1,8 +1,0 @@
-use Rattle.std.proofs.Common.{arith}
-use Rattle.store.proofs.Slots.{own_card}
-use Rattle.store.proofs.frames.Frames.card.Goals as goal
-
-pub returns : goal.returns
-returns c =
-    let s = c.args.self.now in
-    own_card s.count s.recency.order s.slots c.place.result c.args.frame c.place.ensures.value _ (omega arith)
