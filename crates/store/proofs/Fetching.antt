@@ -15,8 +15,8 @@ use Rattle.rules.specs.Refusals.{touched}
 use Rattle.rules.specs.Store.{Store, with_state, filled, fetch, from_valid, from_flash, from_disk, of_page}
 use Rattle.format.specs.Pages.{trailer_of}
 use Rattle.recovery.specs.Looks.{looks}
-use Rattle.store.specs.Parts.{disk_page, from_media}
-use Rattle.store.proofs.Hearing.{after_fault, darkened_err}
+use Rattle.store.specs.Parts.{disk_page, from_media, state_after}
+use Rattle.store.proofs.Hearing.{darkened_gives}
 use Rattle.store.proofs.Strikes.{ToldDark}
 
 -- A page read from the disk.
@@ -86,10 +86,10 @@ module _ (x : Store) (f p : ℕ) where
       go true = told_disk (page x.queue.disk p)
       go false = tt
 
-  -- A fetch that failed.
-  pub fetch_failed : (y : Store) (e d : Fault) (t : State) → Gives (from_media x f p) (Err e) y → d ≡ e
-      → t ≡ after_fault e y.state → Gives (fetch x f p) (Err d) (with_state y t)
-  fetch_failed y e d t g same so =
-      subst (λ (c : Fault). Gives (fetch x f p) (Err c) (with_state y t)) (sym same)
-      (subst (λ (s : State). Gives (fetch x f p) (Err e) (with_state y s)) (sym so)
-      (darkened_err (from_media x f p) e y (told (valid x.queue p)) g))
+  -- What a fetch gives, by what is heard of the media.
+  pub fetched_so : (y : Store) (r s : Result (Unit {0}) Fault) (t : State) → Gives (from_media x f p) r y → s ≡ r
+      → t ≡ state_after r y.state → Gives (fetch x f p) s (with_state y t)
+  fetched_so y r s t g same so =
+      subst (λ (q : Result (Unit {0}) Fault). Gives (fetch x f p) q (with_state y t)) (sym same)
+      (subst (λ (u : State). Gives (fetch x f p) r (with_state y u)) (sym so)
+      (darkened_gives (from_media x f p) r y (told (valid x.queue p)) g))

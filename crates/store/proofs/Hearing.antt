@@ -1,5 +1,5 @@
 -- A rule of the queue, as the store hears its answer.
-use Rattle.std.proofs.Common.{◌≡◌, ℕ, Bool, true, false, cond, Ok, Err, refl, ap, ◌∙◌, arith}
+use Rattle.std.proofs.Common.{◌≡◌, ℕ, Bool, true, false, cond, Ok, Err, Result, refl, ap, ◌∙◌, arith}
 use Rattle.medium.specs.Outcome.{Outcome, done, refused, struck, Gives}
 use Rattle.rules.specs.declared.fault.Fault.{Fault}
 use Rattle.rules.specs.declared.state.State.{State}
@@ -8,15 +8,12 @@ use Rattle.rules.specs.Queue.{Queue}
 use Rattle.rules.specs.Refusals.{is_dark}
 use Rattle.rules.specs.Store.{Store, with_queue, with_state, darkened, on_queue}
 use Rattle.rules.specs.Steps.{within}
+use Rattle.store.specs.Parts.{state_after}
 use Rattle.store.proofs.Strikes.{ToldDark}
 
 -- The store with another state and queue.
 abbrev pub turned : Store → State → Queue → Store
 turned x t y = record { state = t; ram = x.ram; queue = y; holds = x.holds }
-
--- The state after a fault.
-abbrev pub after_fault : Fault → State → State
-after_fault e t = cond (is_dark e.cause) state.Dark t
 
 either : (b : Bool) (x : Store) → with_state x (cond b state.Dark x.state) ≡ cond b (with_state x state.Dark) x
 either true x = refl
@@ -24,13 +21,13 @@ either false x = refl
 
 module _ {A : Type 0} where
   -- A rule of the store itself that was refused or done.
-  pub darkened_ok : (o : Outcome Fault Store A) (a : A) (y : Store) → Gives o (Ok a) y → Gives (darkened o) (Ok a) y
+  darkened_ok : (o : Outcome Fault Store A) (a : A) (y : Store) → Gives o (Ok a) y → Gives (darkened o) (Ok a) y
   darkened_ok (done b s ws) a y g = g
   darkened_ok (refused e s ws) a y g = let n : ◌≡◌ {A = ℕ} 0 1 = cc g.0 in absurd (omega arith)
   darkened_ok (struck e f ws) a y g = let n : ◌≡◌ {A = ℕ} 0 1 = cc g.0 in absurd (omega arith)
 
-  pub darkened_err : (o : Outcome Fault Store A) (e : Fault) (y : Store) → ToldDark o → Gives o (Err e) y
-      → Gives (darkened o) (Err e) (with_state y (after_fault e y.state))
+  darkened_err : (o : Outcome Fault Store A) (e : Fault) (y : Store) → ToldDark o → Gives o (Err e) y
+      → Gives (darkened o) (Err e) (with_state y (state_after {A = A} (Err e) y.state))
   darkened_err (done b s ws) e y told g = let n : ◌≡◌ {A = ℕ} 0 1 = cc g.0 in absurd (omega arith)
   darkened_err (refused d s ws) e y told (is, at) =
       let same : e ≡ d = cc in (
@@ -50,25 +47,24 @@ module _ {A : Type 0} where
         ),
       )
 
-  -- A rule of the queue that was done, and one that was not.
-  pub queue_ok : (x : Store) (o : Outcome Fault Queue A) (a : A) (y : Queue) → Gives o (Ok a) y
-      → Gives (on_queue x o) (Ok a) (with_queue x y)
-  queue_ok x (done b s ws) a y (is, at) = (is, ap (with_queue x) at)
-  queue_ok x (refused e s ws) a y g = let n : ◌≡◌ {A = ℕ} 0 1 = cc g.0 in absurd (omega arith)
-  queue_ok x (struck e f ws) a y g = let n : ◌≡◌ {A = ℕ} 0 1 = cc g.0 in absurd (omega arith)
+  pub darkened_gives : (o : Outcome Fault Store A) (r : Result A Fault) (y : Store) → ToldDark o → Gives o r y
+      → Gives (darkened o) r (with_state y (state_after r y.state))
+  darkened_gives o (Ok a) y told g = darkened_ok o a y g
+  darkened_gives o (Err e) y told g = darkened_err o e y told g
 
-  within_err : (x : Store) (o : Outcome Fault Queue A) (e : Fault) (y : Queue) → Gives o (Err e) y
-      → Gives (within (λ c. c) (with_queue x) o) (Err e) (with_queue x y)
-  within_err x (done b s ws) e y g = let n : ◌≡◌ {A = ℕ} 0 1 = cc g.0 in absurd (omega arith)
-  within_err x (refused d s ws) e y (is, at) = (is, ap (with_queue x) at)
-  within_err x (struck d f ws) e y (is, (w, at)) = (is, (w, ap (with_queue x) at))
+  -- A rule of the queue.
+  within_gives : (x : Store) (o : Outcome Fault Queue A) (r : Result A Fault) (y : Queue) → Gives o r y
+      → Gives (within (λ c. c) (with_queue x) o) r (with_queue x y)
+  within_gives x (done b s ws) r y (is, at) = (is, ap (with_queue x) at)
+  within_gives x (refused d s ws) r y (is, at) = (is, ap (with_queue x) at)
+  within_gives x (struck d f ws) r y (is, (w, at)) = (is, (w, ap (with_queue x) at))
 
   within_told : (x : Store) (o : Outcome Fault Queue A) → ToldDark o → ToldDark (within (λ c. c) (with_queue x) o)
   within_told x (done b s ws) h = tt
   within_told x (refused d s ws) h = tt
   within_told x (struck d f ws) h = h
 
-  pub queue_err : (x : Store) (o : Outcome Fault Queue A) (e : Fault) (y : Queue) → ToldDark o → Gives o (Err e) y
-      → Gives (on_queue x o) (Err e) (turned x (after_fault e x.state) y)
-  queue_err x o e y told g =
-      darkened_err (within (λ c. c) (with_queue x) o) e (with_queue x y) (within_told x o told) (within_err x o e y g)
+  pub queue_gives : (x : Store) (o : Outcome Fault Queue A) (r : Result A Fault) (y : Queue) → ToldDark o → Gives o r y
+      → Gives (on_queue x o) r (turned x (state_after r x.state) y)
+  queue_gives x o r y told g =
+      darkened_gives (within (λ c. c) (with_queue x) o) r (with_queue x y) (within_told x o told) (within_gives x o r y g)

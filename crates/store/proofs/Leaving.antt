@@ -1,6 +1,5 @@
 -- A page that leaves its frame, by what the steps give.
-use Rattle.std.proofs.Common.{◌≡◌, ℕ, Bool, true, false, cond, [], Some, None, Ok, Err, Option, sym, refl, subst}
-use Rattle.medium.specs.Meaning.{Bytes}
+use Rattle.std.proofs.Common.{◌≡◌, ℕ, Bool, true, false, cond, [], Some, None, Ok, Option, Result, sym, refl, subst}
 use Rattle.medium.specs.Outcome.{Gives, done}
 use Rattle.rules.specs.declared.fault.Fault.{Fault}
 use Rattle.rules.specs.declared.state.State.{State}
@@ -10,23 +9,20 @@ use Rattle.rules.specs.Ram.{card_at, body_at}
 use Rattle.rules.specs.Steps.{then_do}
 use Rattle.rules.specs.Store.{Store, Way, enqueue_frame, must_go, emptied, leave, empty_frame}
 use Rattle.rules.proofs.Given.{then_gives}
-use Rattle.store.proofs.Hearing.{turned, after_fault, queue_err}
+use Rattle.store.specs.Parts.{state_after}
+use Rattle.store.proofs.Hearing.{turned, queue_gives}
 use Rattle.store.proofs.Strikes.{of_enqueue}
 
--- An enqueue that failed.
-pub enqueue_failed : (x : Store) (f p : ℕ) (k : Card) (body : Bytes) (y : Queue) (e d : Fault) (t : State)
-    → k ≡ card_at x.ram f → body ≡ body_at x.ram f
-    → Gives (enqueue x.queue p k.version k.dirty body) (Err e) y → d ≡ e → t ≡ after_fault e x.state
-    → Gives (enqueue_frame x f p) (Err d) (turned x t y)
-enqueue_failed x f p k body y e d t own has g same so =
+-- What an enqueue gives, by what is heard of the queue.
+pub enqueued_so : (x : Store) (f p : ℕ) (y : Queue) (r s : Result (Unit {0}) Fault) (t : State)
+    → Gives (enqueue x.queue p (card_at x.ram f).version (card_at x.ram f).dirty (body_at x.ram f)) r y → s ≡ r
+    → t ≡ state_after r x.state → Gives (enqueue_frame x f p) s (turned x t y)
+enqueued_so x f p y r s t g same so =
     let c = card_at x.ram f in
     let o = enqueue x.queue p c.version c.dirty (body_at x.ram f) in
-    let own_g : Gives o (Err e) y =
-    subst (λ (b : Bytes). Gives (enqueue x.queue p c.version c.dirty b) (Err e) y) has
-    (subst (λ (k : Card). Gives (enqueue x.queue p k.version k.dirty body) (Err e) y) own g) in
-    subst (λ (c : Fault). Gives (enqueue_frame x f p) (Err c) (turned x t y)) (sym same)
-    (subst (λ (s : State). Gives (enqueue_frame x f p) (Err e) (turned x s y)) (sym so)
-    (queue_err x o e y (of_enqueue x.queue p c.version c.dirty (body_at x.ram f)) own_g))
+    subst (λ (q : Result (Unit {0}) Fault). Gives (enqueue_frame x f p) q (turned x t y)) (sym same)
+    (subst (λ (u : State). Gives (enqueue_frame x f p) r (turned x u y)) (sym so)
+    (queue_gives x o r y (of_enqueue x.queue p c.version c.dirty (body_at x.ram f)) g))
 
 module _ (x : Store) (f : ℕ) (k : Card) (own : k ≡ card_at x.ram f) where
   -- By the card that was read.

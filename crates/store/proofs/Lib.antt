@@ -4,7 +4,9 @@ pub mod Free
 pub mod Hearing
 pub mod Leaving
 pub mod Mounting
+pub mod Numbers
 pub mod Orders
 pub mod Saving
+pub mod Slots
 pub mod Strikes
 pub mod Taking

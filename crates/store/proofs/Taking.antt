@@ -1,6 +1,5 @@
 -- A page that is brought into RAM and held, by what the steps give.
-use Rattle.std.proofs.Common.{◌≡◌, ℕ, ◌+◌, ◌<◌, Bool, true, false, cond, eqb, [], take, Some, None, Ok, Err, Option, Result, sym, refl, ap, ◌∙◌, subst, arith}
-use Rattle.std.proofs.lemmas.Bool.{ne_eqb}
+use Rattle.std.proofs.Common.{◌≡◌, ℕ, ◌+◌, Bool, true, false, cond, eqb, [], take, Some, None, Ok, Err, Option, Result, sym, refl, ap, ◌∙◌, subst, arith}
 use Rattle.medium.specs.Meaning.{Bytes, Page, size, page}
 use Rattle.medium.specs.Outcome.{Outcome, Gives, done, refused, struck}
 use Rattle.rules.specs.declared.fault.Fault.{Fault}
@@ -11,7 +10,7 @@ use Rattle.rules.specs.declared.trailer.Trailer.{Trailer}
 use Rattle.rules.specs.Format.{most, proper}
 use Rattle.rules.specs.Queue.{Queue, valid, checked, enqueue}
 use Rattle.rules.specs.Ram.{card_at, body_at, last_free, fetched}
-use Rattle.rules.specs.Refusals.{touched}
+use Rattle.rules.specs.Refusals.{plain, touched}
 use Rattle.rules.specs.Steps.{then_do}
 use Rattle.rules.specs.Store.{Store, Way, Answer, on_queue, emptied, leave, must_go, enqueue_frame, empty_frame}
 use Rattle.rules.specs.Store.{darkened, filled, from_flash, of_page, from_disk, from_valid, fetch}
@@ -85,6 +84,15 @@ module _ (x : Store) where
     of_fetch : SameHolds x.holds (fetch x f p)
     of_fetch = of_darkened (from_valid x f p (valid x.queue p)) (of_valid (valid x.queue p))
 
+-- There is a next number.
+pub is_next : (n k : ℕ) (r : Result ℕ Fault) → r ≡ cond (eqb n most) (Err (plain refusal.Spent)) (Ok (n + 1)) → r ≡ Ok k
+    → (eqb n most ≡ false) × (k ≡ n + 1)
+is_next n k r is found = go (eqb n most) (sym found ∙ is)
+  where
+    go : (b : Bool) → Ok k ≡ cond b (Err (plain refusal.Spent)) (Ok (n + 1)) → (b ≡ false) × (k ≡ n + 1)
+    go true e = let z : ◌≡◌ {A = ℕ} 0 1 = cc in absurd (omega arith)
+    go false e = (refl, cc)
+
 -- The number of the hold is the next of the store as it was before.
 pub next_hold : (x y z : Store) (f p : ℕ) → Gives (empty_frame x f) (Ok tt) y → Gives (fetch y f p) (Ok tt) z
     → x.holds + 1 ≡ z.holds + 1
@@ -95,7 +103,7 @@ next_hold x y z f p left came =
 
 -- A page brought into frame f of store x.
 module _ (x : Store) (p f : ℕ) (k : Option ℕ) (free : Some f ≡ last_free x.ram x.ram.recency)
-    (low : x.holds < most) (left : k ≡ (card_at x.ram f).page) where
+    (some : eqb x.holds most ≡ false) (left : k ≡ (card_at x.ram f).page) where
   abbrev rest : Option ℕ → Outcome Fault Store Answer
   rest o = then_do (empty_frame x f) (λ u y. then_do (fetch y f p) (λ v z. hold_frame z f o))
 
@@ -103,7 +111,7 @@ module _ (x : Store) (p f : ℕ) (k : Option ℕ) (free : Some f ≡ last_free x
   by_frame r z g =
       subst (λ (o : Option ℕ). Gives (bring x p o) r z) free
       (subst (λ (b : Bool). Gives (cond b (refuse refusal.Spent x) (rest (card_at x.ram f).page)) r z)
-      (sym (ne_eqb x.holds most (λ e. absurd (omega (arith, e, low))))) (subst (λ (o : Option ℕ). Gives (rest o) r z) left g))
+      (sym some) (subst (λ (o : Option ℕ). Gives (rest o) r z) left g))
 
   module _ (y : Store) (out : Gives (empty_frame x f) (Ok tt) y) where
     pub brought : (z w : Store) (a : Answer) → Gives (fetch y f p) (Ok tt) z → Gives (hold_frame z f k) (Ok a) w

@@ -5,13 +5,15 @@ use Rattle.rules.specs.declared.fault.Refusal.TheVariants as refusal
 use Rattle.rules.specs.declared.state.State.{State}
 use Rattle.rules.specs.declared.state.State.TheVariants as state
 use Rattle.rules.specs.Refusals.{plain}
-use Rattle.store.specs.declared.admit.Asked.{Asked}
-use Rattle.store.specs.declared.admit.Asked.TheVariants.{Mount, Service}
 
-abbrev pub admits : State → Asked → Result (Unit {0}) Fault
-admits state.Dark Mount = Err (plain refusal.Dark)
-admits state.Dark Service = Err (plain refusal.Dark)
-admits state.Shut Mount = Ok tt
-admits state.Shut Service = Err (plain refusal.Shut)
-admits state.Up Mount = Err (plain refusal.Up)
-admits state.Up Service = Ok tt
+-- A mount.
+abbrev pub mounts : State → Result (Unit {0}) Fault
+mounts state.Dark = Err (plain refusal.Dark)
+mounts state.Shut = Ok tt
+mounts state.Up = Err (plain refusal.Up)
+
+-- The other calls, but a power cycle.
+abbrev pub serves : State → Result (Unit {0}) Fault
+serves state.Dark = Err (plain refusal.Dark)
+serves state.Shut = Err (plain refusal.Shut)
+serves state.Up = Ok tt

@@ -1,8 +1,17 @@
 -- Parts of the rules that functions of their own do.
-use Rattle.std.specs.Prelude.{ℕ, ◌+◌, ◌-◌, ◌*◌, ◌/◌, Bool, ◌&&◌, None, ◌==◌, nat_le}
+use Rattle.std.specs.Prelude.{ℕ, ◌+◌, ◌-◌, ◌*◌, ◌/◌, Bool, cond, ◌&&◌, None, Ok, Err, Result, ◌==◌, nat_le}
+use Rattle.rules.specs.declared.fault.Fault.{Fault}
+use Rattle.rules.specs.declared.state.State.{State}
+use Rattle.rules.specs.declared.state.State.TheVariants as state
 use Rattle.rules.specs.Queue.{valid}
+use Rattle.rules.specs.Refusals.{is_dark}
 use Rattle.rules.specs.Ram.{card_at}
 use Rattle.rules.specs.Store.{Store, Way, from_valid, save}
+
+-- The state after an answer of a medium, or of the queue: dark once that was dark.
+abbrev pub state_after : {A : Type 0} → Result A Fault → State → State
+state_after (Ok a) t = t
+state_after (Err e) t = cond (is_dark e.cause) state.Dark t
 
 -- Page p into frame f, with no entry, and as its valid entry says; before a dark medium makes the store dark.
 abbrev pub disk_page : Store → ℕ → ℕ → Way

@@ -1,5 +1,5 @@
 -- What a store is to the rules, and how its functions are said to do what the rules give.
-use Rattle.std.specs.Prelude.{◌≡◌, ℕ, ◌≤◌, Ok, Err, Result}
+use Rattle.std.specs.Prelude.{◌≡◌, ℕ, ◌≤◌, map, Ok, Err, Result}
 use Rattle.medium.specs.declared.Medium.{Ghosts}
 use Rattle.medium.specs.Outcome.{Outcome, Gives}
 use Rattle.rules.specs.declared.fault.Fault.{Fault}
@@ -12,10 +12,17 @@ use Rattle.rules.specs.Store.{Store as RulesStore, Call, Answer, step, mount_shu
 use Rattle.queue.specs.View as queue
 use Rattle.store.specs.declared.frames.Frames.{Frames}
 use Rattle.store.specs.declared.hold.Hold.{Hold}
+use Rattle.store.specs.declared.slot.Slot.{Slot}
 use Rattle.store.specs.declared.store.Store.{Store}
 
 abbrev pub ram_of : Frames → Ram
-ram_of s = record { count = s.count; cards = s.cards; bodies = s.bodies; recency = s.recency.order }
+ram_of s =
+    record {
+      count = s.count;
+      cards = map (λ (x : Slot). x.card) s.slots;
+      bodies = map (λ (x : Slot). x.body) s.slots;
+      recency = s.recency.order;
+    }
 
 -- RAM is then as a rule makes it.
 abbrev pub Goes : Frames → Frames → (Ram → Ram) → Type 0

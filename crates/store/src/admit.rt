@@ -1,26 +1,29 @@
 ghost use Rattle.std.specs.Prelude.{◌≡◌};
-ghost use Rattle.store.specs.Admitted.{admits};
+ghost use Rattle.store.specs.Admitted.{mounts, serves};
 
 use rules::fault::{Fault, Refusal};
 use rules::state::State;
 
-// The calls that a state decides about; a power cycle is done in any state.
-#[derive(Clone, Copy)]
-pub(crate) enum Asked {
-    Mount,
-    // take, read, write, give back, checkpoint
-    Service,
+// State and call decide first. A power cycle is done in any state.
+
+// A mount wants a store that is shut.
+pub(crate) fn may_mount(state: State) -> Result<(), Fault>
+    ensures { result ≡ mounts state }
+{
+    match state {
+        State::Dark => Err(Fault::plain(Refusal::Dark)),
+        State::Shut => Ok(()),
+        State::Up => Err(Fault::plain(Refusal::Up)),
+    }
 }
 
-// State and call decide first.
-pub(crate) fn admit(state: State, asked: Asked) -> Result<(), Fault>
-    ensures { result ≡ admits state asked }
+// The other calls want a store in service.
+pub(crate) fn may_serve(state: State) -> Result<(), Fault>
+    ensures { result ≡ serves state }
 {
-    match (state, asked) {
-        (State::Dark, _) => Err(Fault::plain(Refusal::Dark)),
-        (State::Shut, Asked::Mount) => Ok(()),
-        (State::Shut, Asked::Service) => Err(Fault::plain(Refusal::Shut)),
-        (State::Up, Asked::Mount) => Err(Fault::plain(Refusal::Up)),
-        (State::Up, Asked::Service) => Ok(()),
+    match state {
+        State::Dark => Err(Fault::plain(Refusal::Dark)),
+        State::Shut => Err(Fault::plain(Refusal::Shut)),
+        State::Up => Ok(()),
     }
 }

@@ -1,17 +1,16 @@
-ghost use Rattle.std.specs.Prelude.{◌<◌};
-ghost use Rattle.rules.specs.Ram.{card_at};
-ghost use Rattle.rules.specs.Store.{save_all, saved};
-ghost use Rattle.store.specs.View.{Works, answered};
+ghost use Rattle.rules.specs.Store.{checkpoint as checkpoint_call, save_all, saved};
+ghost use Rattle.store.specs.View.{Does, Works, answered};
 ghost use Rattle.store.specs.Parts.{save_frame};
 
+use crate::admit::may_serve;
+use crate::frame::Frame;
 use crate::store::Store;
 use medium::Medium;
 use rules::fault::Fault;
 
 impl<F: Medium, D: Medium> Store<F, D> {
     // Enqueues the page of a frame, whose flash copy is then as new.
-    fn save(&mut self, frame: u8) -> Result<(), Fault>
-        requires { frame < 16 }
+    fn save(&mut self, frame: Frame) -> Result<(), Fault>
         ensures { Works F.Medium D.Medium self.old self.new result
             (λ x. save_frame x frame) }
     {
@@ -24,18 +23,26 @@ impl<F: Medium, D: Medium> Store<F, D> {
     }
 
     // Saves each frame that is newer than its flash copy, from frame 0 up.
-    pub(crate) fn save_all(&mut self) -> Result<u32, Fault>
+    fn save_all(&mut self) -> Result<u32, Fault>
         ensures { Works F.Medium D.Medium self.old self.new (answered saved result)
             (λ x. save_all x.ram.count x 0 0) }
     {
         let count = self.frames.count();
         let mut saved = 0;
-        for frame in 0..count {
-            if self.frames.is_newer(frame) {
+        for number in 0..count {
+            if let Some(frame) = self.frames.newer(number) {
                 self.save(frame)?;
                 saved += 1;
             }
         }
         Ok(saved)
+    }
+
+    pub(crate) fn serve_checkpoint(&mut self) -> Result<u32, Fault>
+        ensures { Does F.Medium D.Medium self.old self.new (answered saved result)
+            checkpoint_call }
+    {
+        may_serve(self.state)?;
+        self.save_all()
     }
 }

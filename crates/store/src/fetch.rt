@@ -1,24 +1,23 @@
-ghost use Rattle.std.specs.Prelude.{◌<◌};
-ghost use Rattle.rules.specs.Store.{fetch, from_valid};
+ghost use Rattle.rules.specs.Store.{fetch};
 ghost use Rattle.store.specs.View.{Works};
 ghost use Rattle.store.specs.Parts.{from_media, disk_page};
 
+use crate::frame::Frame;
 use crate::leave::heard;
 use crate::store::Store;
 use format::page::read_trailer;
-use medium::Medium;
+use medium::{Medium, PAGE};
 use rules::fault::{Fault, Refusal, Side};
 
 impl<F: Medium, D: Medium> Store<F, D> {
     // A page that has no flash entry comes into a frame from the disk.
-    fn load_from_disk(&mut self, frame: u8, page: u16) -> Result<(), Fault>
-        requires { frame < 16 }
+    fn load_from_disk(&mut self, frame: Frame, page: u16) -> Result<(), Fault>
         ensures { Works F.Medium D.Medium self.old self.new result
             (λ x. disk_page x frame page) }
     {
         let pages = self.queue.disk_pages();
         let Some(bytes) = self.queue.look_at_disk(page)? else {
-            self.frames.fill_blank(frame, page);
+            self.frames.fill(frame, page, 0, false, &[0; PAGE]);
             return Ok(());
         };
         let Some(trailer) = read_trailer(&bytes, pages) else {
@@ -33,8 +32,7 @@ impl<F: Medium, D: Medium> Store<F, D> {
     }
 
     // A page comes into a frame from the flash, if it has a valid entry there, or else from the disk.
-    fn load(&mut self, frame: u8, page: u16) -> Result<(), Fault>
-        requires { frame < 16 }
+    fn load(&mut self, frame: Frame, page: u16) -> Result<(), Fault>
         ensures { Works F.Medium D.Medium self.old self.new result
             (λ x. from_media x frame page) }
     {
@@ -50,14 +48,11 @@ impl<F: Medium, D: Medium> Store<F, D> {
     }
 
     // The same; a medium that is dark makes the store dark.
-    pub(crate) fn fetch(&mut self, frame: u8, page: u16) -> Result<(), Fault>
-        requires { frame < 16 }
+    pub(crate) fn fetch(&mut self, frame: Frame, page: u16) -> Result<(), Fault>
         ensures { Works F.Medium D.Medium self.old self.new result
             (λ x. fetch x frame page) }
     {
-        match self.load(frame, page) {
-            Ok(()) => Ok(()),
-            Err(fault) => Err(heard(&mut self.state, fault)),
-        }
+        let answer = self.load(frame, page);
+        heard(&mut self.state, answer)
     }
 }

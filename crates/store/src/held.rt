@@ -1,27 +1,25 @@
-ghost use Rattle.std.specs.Prelude.{◌≡◌, ◌≤◌, length, Err};
-ghost use Rattle.rules.specs.Store.{read_up, write_up, give_up, gave, wrote, given};
-ghost use Rattle.rules.specs.Ram.{card_at};
-ghost use Rattle.queue.specs.View as queue;
-ghost use Rattle.store.specs.View.{Works, answered, ram_of};
+ghost use Rattle.std.specs.Prelude.{◌≡◌, length, Err};
+ghost use Rattle.rules.specs.Store.{read as read_call, write as write_call, give_back, gave, wrote, given};
+ghost use Rattle.store.specs.View.{Does, InOrder, InRange, answered};
 
+use crate::admit::may_serve;
 use crate::hold::Hold;
-use crate::store::{MOST, Store};
+use crate::store::Store;
 use format::page::BODY;
 use medium::Medium;
 use rules::fault::{Fault, Refusal};
+use rules::trailer::MOST;
 
 // Read, write and give back want the frame's hold.
 impl<F: Medium, D: Medium> Store<F, D> {
-    pub(crate) fn read_up(&mut self, hold: &Hold, into: &mut [u8]) -> Result<u32, Fault>
-        ensures works { Works F.Medium D.Medium self.old self.new
+    pub(crate) fn serve_read(&mut self, hold: &Hold, into: &mut [u8]) -> Result<u32, Fault>
+        ensures does { Does F.Medium D.Medium self.old self.new
             (answered (λ v. gave into.new v) result)
-            (λ x. read_up x hold.now.grant.frame hold.now.grant.number (length into.old)) }
+            (read_call hold.now.grant.frame hold.now.grant.number (length into.old)) }
         ensures untouched { (e : Fault) → result ≡ Err e → into.new ≡ into.old }
     {
-        let frame = hold.grant.frame;
-        if !self.frames.is_held(frame, hold.grant.number) {
-            return Err(Fault::plain(Refusal::Stale));
-        }
+        may_serve(self.state)?;
+        let frame = self.frames.held(hold.grant)?;
         if into.len() != BODY {
             return Err(Fault::plain(Refusal::Length));
         }
@@ -29,22 +27,18 @@ impl<F: Medium, D: Medium> Store<F, D> {
         Ok(self.frames.card(frame).version)
     }
 
-    pub(crate) fn write_up(
+    pub(crate) fn serve_write(
         &mut self,
         hold: &Hold,
         offset: usize,
         bytes: &[u8],
     ) -> Result<u32, Fault>
-        ensures keeps { queue.InOrder F.Medium D.Medium self.old.queue
-            → queue.InOrder F.Medium D.Medium self.new.queue }
-        ensures works { (card_at (ram_of self.old.frames) hold.now.grant.frame).version ≤ 4000000000
-            → Works F.Medium D.Medium self.old self.new (answered wrote result)
-            (λ x. write_up x hold.now.grant.frame hold.now.grant.number offset bytes.now) }
+        ensures keeps { InOrder F.Medium D.Medium self.old → InOrder F.Medium D.Medium self.new }
+        ensures does { InRange self.old → Does F.Medium D.Medium self.old self.new (answered wrote result)
+            (write_call hold.now.grant.frame hold.now.grant.number offset bytes.now) }
     {
-        let frame = hold.grant.frame;
-        if !self.frames.is_held(frame, hold.grant.number) {
-            return Err(Fault::plain(Refusal::Stale));
-        }
+        may_serve(self.state)?;
+        let frame = self.frames.held(hold.grant)?;
         if offset > BODY || bytes.len() > BODY - offset {
             return Err(Fault::plain(Refusal::Length));
         }
@@ -56,13 +50,13 @@ impl<F: Medium, D: Medium> Store<F, D> {
         Ok(version + 1)
     }
 
-    pub(crate) fn give_up(&mut self, frame: u8, number: u32) -> Result<(), Fault>
-        ensures { Works F.Medium D.Medium self.old self.new (answered (λ _. given) result)
-            (λ x. give_up x frame number) }
+    pub(crate) fn serve_give_back(&mut self, hold: Hold) -> Result<(), Fault>
+        ensures { Does F.Medium D.Medium self.old self.new (answered (λ _. given) result)
+            (give_back hold.grant.frame hold.grant.number) }
     {
-        if !self.frames.is_held(frame, number) {
-            return Err(Fault::plain(Refusal::Stale));
-        }
+        let grant = hold.spend();
+        may_serve(self.state)?;
+        let frame = self.frames.held(grant)?;
         self.frames.release(frame);
         Ok(())
     }

@@ -1,12 +1,12 @@
-ghost use Rattle.std.specs.Prelude.{◌≡◌, ◌<◌, if◌then◌else◌};
-ghost use Rattle.rules.specs.declared.state.State.TheVariants as state;
-ghost use Rattle.rules.specs.Refusals.{is_dark};
+ghost use Rattle.std.specs.Prelude.{◌≡◌};
 ghost use Rattle.rules.specs.Queue.{enqueue};
 ghost use Rattle.rules.specs.Ram.{card_at, body_at};
 ghost use Rattle.rules.specs.Store.{empty_frame, enqueue_frame, must_go};
 ghost use Rattle.queue.specs.View as queue;
+ghost use Rattle.store.specs.Parts.{state_after};
 ghost use Rattle.store.specs.View.{Works, Beside, view, ram_of};
 
+use crate::frame::Frame;
 use crate::store::Store;
 use medium::Medium;
 use rules::fault::{Fault, Refusal};
@@ -14,20 +14,21 @@ use rules::state::State;
 use rules::table::Card;
 
 // A store is dark once a medium answered dark.
-pub(crate) fn heard(on: &mut State, fault: Fault) -> Fault
-    ensures value { result ≡ fault }
-    ensures after { on.new ≡ (if is_dark fault.cause then state.Dark else on.old) }
+pub(crate) fn heard<T>(on: &mut State, answer: Result<T, Fault>) -> Result<T, Fault>
+    ensures value { result ≡ answer }
+    ensures after { on.new ≡ state_after answer on.old }
 {
-    if let Refusal::Dark = fault.cause {
+    if let Err(fault) = &answer
+        && let Refusal::Dark = fault.cause
+    {
         *on = State::Dark;
     }
-    fault
+    answer
 }
 
 impl<F: Medium, D: Medium> Store<F, D> {
     // Gives the page of a frame to the queue; the frame stays as it is.
-    fn hand_over(&mut self, frame: u8, page: u16) -> Result<(), Fault>
-        requires { frame < 16 }
+    fn hand_over(&mut self, frame: Frame, page: u16) -> Result<(), Fault>
         ensures queued { queue.Does F.Medium D.Medium self.old.queue self.new.queue result
             (λ y. enqueue y page (card_at (ram_of self.old.frames) frame).version
             (card_at (ram_of self.old.frames) frame).dirty
@@ -40,15 +41,12 @@ impl<F: Medium, D: Medium> Store<F, D> {
     }
 
     // Enqueues the page of a frame.
-    pub(crate) fn enqueue_frame(&mut self, frame: u8, page: u16) -> Result<(), Fault>
-        requires { frame < 16 }
+    pub(crate) fn enqueue_frame(&mut self, frame: Frame, page: u16) -> Result<(), Fault>
         ensures { Works F.Medium D.Medium self.old self.new result
             (λ x. enqueue_frame x frame page) }
     {
-        match self.hand_over(frame, page) {
-            Ok(()) => Ok(()),
-            Err(fault) => Err(heard(&mut self.state, fault)),
-        }
+        let answer = self.hand_over(frame, page);
+        heard(&mut self.state, answer)
     }
 
     // Whether a page that leaves RAM has to be enqueued: its flash copy is older or, being written at all, it has none.
@@ -59,8 +57,7 @@ impl<F: Medium, D: Medium> Store<F, D> {
     }
 
     // Takes the page out of a frame, by way of the flash if it must.
-    pub(crate) fn empty_frame(&mut self, frame: u8) -> Result<(), Fault>
-        requires { frame < 16 }
+    pub(crate) fn empty_frame(&mut self, frame: Frame) -> Result<(), Fault>
         ensures { Works F.Medium D.Medium self.old self.new result
             (λ x. empty_frame x frame) }
     {

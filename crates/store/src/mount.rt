@@ -1,11 +1,12 @@
 ghost use Rattle.std.specs.Prelude.{◌≡◌, Ok};
 ghost use Rattle.rules.specs.declared.state.State.TheVariants as state;
-ghost use Rattle.rules.specs.Store.{mounted, cycle as cycle_rule, cycled};
+ghost use Rattle.rules.specs.Store.{mount as mount_call, mounted, cycle as cycle_rule, cycled};
 ghost use Rattle.medium.specs.Outcome.{Gives};
 ghost use Rattle.queue.specs.View.{Reliable};
 ghost use Rattle.store.specs.Parts.{fit};
-ghost use Rattle.store.specs.View.{view, answered, Mounts};
+ghost use Rattle.store.specs.View.{view, answered, Does, Mounts};
 
+use crate::admit::may_mount;
 use crate::frames::Frames;
 use crate::leave::heard;
 use crate::store::Store;
@@ -19,30 +20,32 @@ fn are_fitting(frames: u32, flash: u16, disk: u16) -> bool
     ensures { result ≡ fit frames flash disk }
 {
     let groups = groups_of(flash);
-    frames >= 1
-        && frames <= 16
+    (1..=16).contains(&frames)
         && u32::from(flash) == 16 * u32::from(groups) + 1
-        && groups >= 2
-        && groups <= 14
-        && disk >= 1
-        && disk <= 240
+        && (2..=14).contains(&groups)
+        && (1..=240).contains(&disk)
 }
 
 impl<F: Medium, D: Medium> Store<F, D> {
     // Mounts a store that is shut.
-    pub(crate) fn mount_shut(&mut self, frames: u32) -> Result<Mounted, Fault>
+    fn mount_shut(&mut self, frames: u32) -> Result<Mounted, Fault>
         ensures { Mounts F.Medium D.Medium self.old self.new (answered mounted result) frames }
     {
         if !are_fitting(frames, self.queue.flash_pages(), self.queue.disk_pages()) {
             return Err(Fault::plain(Refusal::Size));
         }
-        let found = match self.queue.recover() {
-            Ok(found) => found,
-            Err(fault) => return Err(heard(&mut self.state, fault)),
-        };
+        let found = heard(&mut self.state, self.queue.recover())?;
         self.frames = Frames::fresh(frames as u8);
         self.state = State::Up;
         Ok(found)
+    }
+
+    pub(crate) fn serve_mount(&mut self, frames: u32) -> Result<Mounted, Fault>
+        ensures { Does F.Medium D.Medium self.old self.new (answered mounted result)
+            (mount_call frames) }
+    {
+        may_mount(self.state)?;
+        self.mount_shut(frames)
     }
 
     // The power is off and on again.

@@ -1,29 +1,21 @@
-ghost use Rattle.std.specs.Prelude.{◌≡◌, ◌<◌, ◌∷◌};
+ghost use Rattle.std.specs.Prelude.{◌≡◌, ◌==◌, ◌∷◌, position};
 ghost use Rattle.rules.specs.Ram.{all_frames, without};
-ghost use Rattle.store.specs.Order.{Within, Once, moved_up};
+ghost use Rattle.store.specs.Order.{Once};
+
+use crate::frame::{FRAMES, Frame};
 
 // The frames, the one last taken first. Each is named once.
 #[derive(Drop)]
 pub struct Recency {
-    pub(crate) order: [u8; 16],
-    ghost within: { Within order },
+    pub(crate) order: [Frame; FRAMES],
     ghost once: { Once order },
 }
 
-// A list in which each frame in front of one is a place further back, and that one is at the head.
-fn moved(order: [u8; 16], frame: u8) -> [u8; 16]
-    ensures { result ≡ moved_up frame frame order }
+// Where a list has the frame of a number.
+fn place_of(number: u8, order: &[Frame]) -> Option<usize>
+    ensures { result ≡ position (λ x. x == number) order.now }
 {
-    let mut out = order;
-    let mut carried = frame;
-    for (k, x) in order.iter().enumerate() {
-        out[k] = carried;
-        if *x == frame {
-            return out;
-        }
-        carried = *x;
-    }
-    out
+    order.iter().position(|x| x.number() == number)
 }
 
 impl Recency {
@@ -31,16 +23,16 @@ impl Recency {
         ensures { result.order ≡ all_frames }
     {
         Recency {
-            order: [0, 1, 2, 3, 4, 5, 6, 7, 8, 9, 10, 11, 12, 13, 14, 15],
+            order: Frame::all(),
         }
     }
 
     // Moves a frame to the head.
-    pub(crate) fn to_head(&mut self, frame: u8)
-        requires { frame < 16 }
+    pub(crate) fn to_head(&mut self, frame: Frame)
         ensures { self.new.order ≡ frame ∷ without frame self.old.order }
     {
-        let order = moved(self.order, frame);
-        *self = Recency { order };
+        if let Some(place) = place_of(frame.number(), &self.order) {
+            self.order[..=place].rotate_right(1);
+        }
     }
 }

@@ -4,9 +4,6 @@ use crate::frames::Frames;
 use queue::queue::Queue;
 use rules::state::State;
 
-// The highest version and hold number.
-pub(crate) const MOST: u32 = 4_000_000_000;
-
 // A store of show pages: RAM frames over a flash queue over a disk.
 pub struct Store<F, D> {
     pub(crate) state: State,

@@ -1,19 +1,35 @@
-ghost use Rattle.std.specs.Prelude.{◌≡◌, ◌+◌, ◌<◌, ◌≤◌, Some, None, Ok};
-ghost use Rattle.rules.specs.Store.{bring, hold_frame, take_of, take_up};
+ghost use Rattle.std.specs.Prelude.{◌≡◌, ◌+◌, ◌≤◌, ◌==◌, Some, None, Ok, Err, IfOk, if◌then◌else◌};
+ghost use Rattle.rules.specs.declared.fault.Refusal.TheVariants as refusal;
+ghost use Rattle.rules.specs.Format.{most};
+ghost use Rattle.rules.specs.Refusals.{plain};
+ghost use Rattle.rules.specs.Store.{bring, hold_frame, take_of, take_page};
 ghost use Rattle.rules.specs.Ram.{last_free};
-ghost use Rattle.store.specs.View.{Works, answered, granted};
+ghost use Rattle.store.specs.View.{Does, Works, answered, granted};
 
+use crate::admit::may_serve;
+use crate::frame::Frame;
 use crate::hold::Hold;
-use crate::store::{MOST, Store};
+use crate::store::Store;
 use medium::Medium;
 use rules::fault::{Fault, Refusal};
 use rules::table::Grant;
+use rules::trailer::MOST;
 
 impl<F: Medium, D: Medium> Store<F, D> {
+    // The number of the next hold.
+    fn next_number(&self) -> Result<u32, Fault>
+        ensures value { result ≡ (if self.now.holds == most then Err (plain refusal.Spent) else Ok (self.now.holds + 1)) }
+        ensures within { IfOk result (λ n. n ≤ most) }
+    {
+        if self.holds == MOST {
+            return Err(Fault::plain(Refusal::Spent));
+        }
+        Ok(self.holds + 1)
+    }
+
     // Holds a frame under the next number.
-    fn hold_frame(&mut self, frame: u8, number: u32, evicted: Option<u16>) -> Hold
-        requires frame { frame < 16 }
-        requires number { number ≤ 4000000000 }
+    fn hold_frame(&mut self, frame: Frame, number: u32, evicted: Option<u16>) -> Hold
+        requires { number ≤ most }
         ensures { number ≡ self.old.holds + 1
             → Works F.Medium D.Medium self.old self.new (Ok (granted result))
             (λ x. hold_frame x frame evicted) }
@@ -23,7 +39,7 @@ impl<F: Medium, D: Medium> Store<F, D> {
         self.holds = number;
         Hold {
             grant: Grant {
-                frame,
+                frame: frame.number(),
                 number,
                 version,
                 evicted,
@@ -32,18 +48,15 @@ impl<F: Medium, D: Medium> Store<F, D> {
     }
 
     // Takes a page that is in a frame.
-    fn take_in_ram(&mut self, page: u16, frame: u8) -> Result<Hold, Fault>
-        requires { frame < 16 }
+    fn take_in_ram(&mut self, page: u16, frame: Frame) -> Result<Hold, Fault>
         ensures { Works F.Medium D.Medium self.old self.new (answered granted result)
             (λ x. take_of x page (Some frame)) }
     {
         if self.frames.card(frame).hold != 0 {
             return Err(Fault::plain(Refusal::Held));
         }
-        if self.holds == MOST {
-            return Err(Fault::plain(Refusal::Spent));
-        }
-        Ok(self.hold_frame(frame, self.holds + 1, None))
+        let number = self.next_number()?;
+        Ok(self.hold_frame(frame, number, None))
     }
 
     // Takes a page that is in no frame: the last unheld one is emptied for it.
@@ -54,21 +67,18 @@ impl<F: Medium, D: Medium> Store<F, D> {
         let Some(frame) = self.frames.last_free() else {
             return Err(Fault::plain(Refusal::AllHeld));
         };
-        if self.holds == MOST {
-            return Err(Fault::plain(Refusal::Spent));
-        }
-        let number = self.holds + 1;
+        let number = self.next_number()?;
         let evicted = self.frames.card(frame).page;
         self.empty_frame(frame)?;
         self.fetch(frame, page)?;
         Ok(self.hold_frame(frame, number, evicted))
     }
 
-    // Takes a page of a store in service.
-    pub(crate) fn take_up(&mut self, page: u32) -> Result<Hold, Fault>
-        ensures { Works F.Medium D.Medium self.old self.new (answered granted result)
-            (λ x. take_up x page) }
+    pub(crate) fn serve_take(&mut self, page: u32) -> Result<Hold, Fault>
+        ensures { Does F.Medium D.Medium self.old self.new (answered granted result)
+            (take_page page) }
     {
+        may_serve(self.state)?;
         if page >= u32::from(self.queue.disk_pages()) {
             return Err(Fault::plain(Refusal::NoPage));
         }

@@ -1,7 +1,5 @@
-use Rattle.std.proofs.Common.{refl}
-use Rattle.rules.specs.Ram.{all_frames}
+use Rattle.store.proofs.Orders.{all_once}
 use Rattle.store.proofs.recency.Recency.new.Goals as goal
 
-pub returns : goal.returns
-unfolding all_frames
-returns c = refl
+pub invariant_of-result : goal.invariant_of-result
+invariant_of-result c = record { once = all_once c.all.result c.all.ensures }

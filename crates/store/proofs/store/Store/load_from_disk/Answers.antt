@@ -9,7 +9,7 @@ returns g c = λ o.
     let (kept, same, found) = c.in_ok-bytes.ensures o in (
       kept,
       from_disk_given x c.args.frame c.args.page c.in-Some.bytes c.in-Some-read_trailer.trailer _
-          (λ i. record { state = x.state; ram = c.fill.ensures i; queue = same i; holds = x.holds })
+          (λ i. record { state = x.state; ram = c.fill-2.ensures i; queue = same i; holds = x.holds })
           c.disk_pages-pages.result (ap Ok (sym c.in-Some.is) ∙ found) (c.disk_pages-pages.ensures o.media)
           (omega arith) c.in-Some-read_trailer.ensures c.if-trailer-page.false,
     )

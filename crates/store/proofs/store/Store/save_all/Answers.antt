@@ -3,49 +3,50 @@ use Rattle.std.proofs.lemmas.Result.{err_from_is_err_and}
 use Rattle.medium.specs.Outcome.{Gives}
 use Rattle.rules.specs.Store.{save_all}
 use Rattle.store.specs.View.{view}
-use Rattle.store.proofs.Saving.{turn_passes, turn_saves, turn_fails}
+use Rattle.store.proofs.Saving.{is_newer, is_as_saved, turn_passes, turn_saves, turn_fails}
 use Rattle.store.proofs.store.Store.save_all.Goals as goal
-use Rattle.store.proofs.store.Store.save_all.Goals.{then-is_newer+in_ok-save, else-is_newer}
+use Rattle.store.proofs.store.Store.save_all.Goals.{in-Some+in_ok-save, in_default}
 
-pub loop-frame-preserved : goal.loop-frame-preserved
-loop-frame-preserved g c =
+pub loop-number-preserved : goal.loop-number-preserved
+loop-number-preserved g c =
     let see = view g.F.Medium g.D.Medium in
-    let i = c.loop-frame.frame in
+    let i = c.loop-number.number in
     let n = c.count-count.result - (i + 1) in
     let m = c.count-count.result - i in
     let one : m ≡ suc n = omega arith in
-    let x = see c.loop-frame.self in
-    let k = c.loop-frame.saved in
-    elim c.if-is_newer.branch [
-      | then-is_newer+in_ok-save w ↦ (
-        omega (arith, w.saved-is, c.loop-frame.invariant.0),
+    let x = see c.loop-number.self in
+    let k = c.loop-number.saved in
+    elim c.match-newer.branch [
+      | in-Some+in_ok-save w ↦ (
+        omega (arith, w.saved-is, c.loop-number.invariant.0),
         λ o.
-            let (still, whole) = c.loop-frame.invariant.1 o in
+            let (still, whole) = c.loop-number.invariant.1 o in
             let (kept, put) = w.in_ok-save.ensures still in
+            let (newer, own) = is_newer _ i w.in-Some.frame _ c.newer.ensures w.in-Some.is in
             rw (w.self-is, w.saved-is) (
               kept,
-              λ r z rest.
-                  whole r z (turn_saves n m x i k one r z _ w.if-is_newer.ensures.value put rest),
+              λ r z rest. whole r z (turn_saves n m x i k one r z w.in-Some.frame own _ newer put rest),
             ),
       )
-      | else-is_newer w ↦ (
-        omega (arith, w.saved-is, c.loop-frame.invariant.0),
+      | in_default w ↦ (
+        omega (arith, w.saved-is, c.loop-number.invariant.0),
         λ o.
-            let (still, whole) = c.loop-frame.invariant.1 o in
+            let (still, whole) = c.loop-number.invariant.1 o in
             rw (w.self-is, w.saved-is)
-            (still, λ r z rest. whole r z (turn_passes n m x i k one r z w.if-is_newer.ensures.value rest)),
+            (still, λ r z rest. whole r z (turn_passes n m x i k one r z (is_as_saved _ i _ c.newer.ensures w.in_default.is) rest)),
       )
     ]
 
 pub returns-in_err-save : goal.returns-in_err-save
 returns-in_err-save g c = λ o.
     let see = view g.F.Medium g.D.Medium in
-    let i = c.loop-frame.frame in
+    let i = c.loop-number.number in
     let n = c.count-count.result - (i + 1) in
     let m = c.count-count.result - i in
     let one : m ≡ suc n = omega arith in
-    let (still, whole) = c.loop-frame.invariant.1 o in
+    let (still, whole) = c.loop-number.invariant.1 o in
     let (kept, failed) = c.in_err-save.ensures still in
+    let (newer, own) = is_newer _ i c.in-Some.frame _ c.newer.ensures c.in-Some.is in
     let f = c.in_err-save.field-0.0 in
     let z = see c.save.new.self in
     let e = err_from_is_err_and c.from_residual.result c.from_residual.ensures.1 in
@@ -53,6 +54,6 @@ returns-in_err-save g c = λ o.
       kept,
       subst (λ (j : ℕ). Gives (save_all j (see c.args.self.now) 0 0) (Err f) z) c.count-count.ensures
           (whole (Err f) z
-          (turn_fails n m (see c.loop-frame.self) z i c.loop-frame.saved one c.if-is_newer.ensures.value f
+          (turn_fails n m (see c.loop-number.self) z i c.loop-number.saved one newer c.in-Some.frame own f
           failed)),
     )
