@@ -1,15 +1,16 @@
 -- What is written is read back.
-use Rattle.std.proofs.Common.{◌≡◌, ℕ, ◌<◌, true, false, cond, ◌&&◌, eqb, leb, List, [], ◌∷◌, ◌++◌, length, Some, None, decimal, refl, ap, ◌∙◌, ap₂, arith, rules}
+use Rattle.std.proofs.Common.{◌≡◌, ℕ, ◌<◌, true, false, cond, ◌&&◌, eqb, leb, List, [], ◌∷◌, ◌++◌, length, Some, None, decimal, refl, ap, ◌∙◌, ap₂, arith}
 use Rattle.std.proofs.lemmas.Fmt.{digits_decimal, digits_value-decimal, decimal_nonempty}
-use Rattle.std.proofs.lemmas.Str.Parse.{IsNumeralModel, numerals_by_fold}
-use Rattle.std.proofs.lemmas.Bool.{and_parts, le-leb, ne_eqb}
+use Rattle.std.proofs.lemmas.List.Splits.{slice_split_at, slice_split_none}
+use Rattle.std.proofs.lemmas.List.Sums.{AllPass-from_list_all}
+use Rattle.std.specs.Char.{is_ascii_digit}
+use Rattle.std.specs.List.{All, onto_first}
+use Rattle.board.proofs.Reading.{own}
+use Rattle.std.proofs.lemmas.Bool.{le-leb, ne_eqb}
 use Rattle.std.proofs.lemmas.Bool.Decides.{nat_tests}
 use Rattle.board.specs.declared.command.Command.TheVariants.{Mount, Save, Get, Checkpoint, Cycle}
-use Rattle.board.specs.Lines.{lines_of, fields_of, before_first, is_digit, all_digits, value, number_of, followed, all_numbers, numbers_of, command_with}
+use Rattle.board.specs.Lines.{lines_of, fields_of, all_digits, value, number_of, followed, all_numbers, numbers_of, command_with}
 use Rattle.board.specs.Laws.{Small, Unfed, CommandsReadBack, LinesReadBack}
-
-own : IsNumeralModel (λ ds. all_digits ds ≡ true) (value 0)
-own = numerals_by_fold _ (search rules) value (search rules)
 
 -- A number is read back from its digits.
 number_back : (n : ℕ) → Small n → number_of (decimal n) ≡ Some n
@@ -22,20 +23,15 @@ number_back n h =
     ∙ ap (λ t. cond t (Some n) None) (le-leb n 4294967295 h)
 
 -- Digits have no space.
-no_space : (c : ℕ) → is_digit c ≡ true → eqb c 32 ≡ false
-no_space c e = grind (arith, nat_tests)
+no_space : (ds : List ℕ) → all_digits ds ≡ true → All (λ c. eqb c 32 ≡ false) ds
+no_space ds e k d lt =
+    let digit = AllPass-from_list_all is_ascii_digit ds e k d lt in grind (arith, nat_tests, digit)
 
 fields_more : (ds xs : List ℕ) → all_digits ds ≡ true → fields_of (ds ++ (32 ∷ xs)) ≡ ds ∷ fields_of xs
-fields_more [] xs e = refl
-fields_more (c ∷ cs) xs e =
-    let p = and_parts (is_digit c) (all_digits cs) e in
-    ap₂ (λ t fs. cond t ([] ∷ fs) (before_first c fs)) (no_space c p.0) (fields_more cs xs p.1)
+fields_more ds xs e = slice_split_at (λ c. eqb c 32) ds 32 xs (no_space ds e) refl
 
 fields_last : (ds : List ℕ) → all_digits ds ≡ true → fields_of ds ≡ ds ∷ []
-fields_last [] e = refl
-fields_last (c ∷ cs) e =
-    let p = and_parts (is_digit c) (all_digits cs) e in
-    ap₂ (λ t fs. cond t ([] ∷ fs) (before_first c fs)) (no_space c p.0) (fields_last cs p.1)
+fields_last ds e = slice_split_none (λ c. eqb c 32) ds (no_space ds e)
 
 digits_of : (n : ℕ) → Small n → all_digits (decimal n) ≡ true
 digits_of n h = digits_decimal own n (omega arith)
@@ -66,7 +62,7 @@ commands_read_back (Cycle a b) h = ap (command_with 99) (two a b h.0 h.1)
 line_back : (l xs : List ℕ) → Unfed l → lines_of (l ++ (10 ∷ xs)) ≡ l ∷ lines_of xs
 line_back [] xs h = refl
 line_back (c ∷ cs) xs h =
-    ap₂ (λ t ls. cond t ([] ∷ ls) (before_first c ls)) (ne_eqb c 10 h.0) (line_back cs xs h.1)
+    ap₂ (λ t ls. cond t ([] ∷ ls) (onto_first c ls)) (ne_eqb c 10 h.0) (line_back cs xs h.1)
 
 pub lines_read_back : LinesReadBack
 lines_read_back [] h = refl

@@ -1,30 +1,22 @@
 -- The lines of an input, and the command that a line gives.
-use Rattle.std.specs.Prelude.{ℕ, ◌+◌, ◌-◌, ◌*◌, Bool, true, cond, ◌&&◌, List, [], ◌∷◌, length, Some, None, Option, ◌==◌, nat_le}
+use Rattle.std.specs.Prelude.{ℕ, ◌+◌, ◌-◌, ◌*◌, Bool, cond, ◌&&◌, List, [], ◌∷◌, length, Some, None, Option, ◌==◌, nat_le}
+use Rattle.std.specs.Char.{is_ascii_digit}
+use Rattle.std.specs.List.{list_all, onto_first, slice_split}
 use Rattle.board.specs.declared.command.Command.{Command}
 use Rattle.board.specs.declared.command.Command.TheVariants.{Mount, Save, Get, Checkpoint, Cycle}
-
--- A byte before the first piece.
-abbrev pub before_first : ℕ → List (List ℕ) → List (List ℕ)
-before_first c [] = (c ∷ []) ∷ []
-before_first c (p ∷ ps) = (c ∷ p) ∷ ps
 
 -- The lines of an input: each ends with a line feed, the last one also without.
 abbrev pub lines_of : List ℕ → List (List ℕ)
 lines_of [] = []
-lines_of (c ∷ cs) = cond (c == 10) ([] ∷ lines_of cs) (before_first c (lines_of cs))
+lines_of (c ∷ cs) = cond (c == 10) ([] ∷ lines_of cs) (onto_first c (lines_of cs))
 
 -- The pieces between the spaces: one more than there are spaces.
 abbrev pub fields_of : List ℕ → List (List ℕ)
-fields_of [] = [] ∷ []
-fields_of (c ∷ cs) = cond (c == 32) ([] ∷ fields_of cs) (before_first c (fields_of cs))
+fields_of = slice_split (λ c. c == 32)
 
 -- Digits, and the number that they write after the number so far.
-abbrev pub is_digit : ℕ → Bool
-is_digit c = nat_le 48 c && nat_le c 57
-
 abbrev pub all_digits : List ℕ → Bool
-all_digits [] = true
-all_digits (c ∷ cs) = is_digit c && all_digits cs
+all_digits = list_all is_ascii_digit
 
 abbrev pub value : ℕ → List ℕ → ℕ
 value n [] = n

@@ -1,10 +1,10 @@
-ghost use Rattle.std.specs.Prelude.{◌≡◌, ℕ, ◌<◌, length, Some, None, MatchOption};
-ghost use Rattle.board.specs.Lines.{numbers_of, followed, command_by, command_with, command_of};
-ghost use Rattle.board.specs.Parts.{listed};
+ghost use Rattle.std.specs.Prelude.{◌≡◌, ℕ, Some, None, MatchOption};
+ghost use Rattle.board.specs.Lines.{fields_of, all_numbers, numbers_of, command_by, command_with, command_of};
 ghost use Rattle.board.specs.Texts.{letter_of, letter_text};
 
-use crate::lines::find;
 use crate::number::number;
+use arrayvec::ArrayVec;
+use std::fmt;
 
 // What a line asks for.
 #[derive(Clone, Copy, PartialEq, Eq, Debug)]
@@ -42,6 +42,15 @@ impl Letter {
     }
 }
 
+// As a reply prints it.
+impl fmt::Display for Letter {
+    ghost output = { λ l. Some (letter_text l) };
+
+    fn fmt<W: fmt::Write>(&self, f: &mut fmt::Formatter<W>) -> fmt::Result {
+        f.write_str(self.text())
+    }
+}
+
 impl Command {
     pub fn letter(self) -> Letter
         ensures { result ≡ letter_of self }
@@ -57,73 +66,45 @@ impl Command {
 }
 
 // The numbers of a line: no command has more than three.
-#[derive(Clone, Copy)]
-enum Numbers {
-    Zero,
-    One(u32),
-    Two(u32, u32),
-    Three(u32, u32, u32),
-}
+type Numbers = ArrayVec<u32, 3>;
 
-// A number of a line, and what stands behind it.
-#[derive(Clone, Copy)]
-struct Field<'a> {
-    number: u32,
-    rest: &'a [u8],
-}
-
-// The first of the numbers behind a letter: a space, and the digits up to the next space or the end.
-fn first_number(rest: &[u8]) -> Option<Field<'_>>
-    requires { 0 < length rest.now }
-    ensures { MatchOption result (numbers_of rest.now ≡ None)
-        (λ f. numbers_of rest.now ≡ followed (Some f.number) (numbers_of f.rest.now)) }
-{
-    if rest[0] != b' ' {
-        return None;
-    }
-    let end = find(rest, 1, b' ');
-    Some(Field {
-        number: number(&rest[1..end])?,
-        rest: &rest[end..],
-    })
-}
-
-// The numbers behind a letter, if they are well-formed and no more than three.
+// The numbers behind a letter: none, or each after one space.
 fn numbers_of(rest: &[u8]) -> Option<Numbers>
     ensures { MatchOption result ((letter : ℕ) → command_with letter (numbers_of rest.now) ≡ None)
-        (λ n. numbers_of rest.now ≡ Some (listed n)) }
+        (λ n. numbers_of rest.now ≡ Some n.items) }
 {
-    if rest.is_empty() {
-        return Some(Numbers::Zero);
+    match rest {
+        [] => Some(ArrayVec::new()),
+        [b' ', fields @ ..] => all_numbers(fields),
+        _ => None,
     }
-    let first = first_number(rest)?;
-    if first.rest.is_empty() {
-        return Some(Numbers::One(first.number));
+}
+
+// The numbers between the spaces, if they are well-formed and no more than three.
+fn all_numbers(fields: &[u8]) -> Option<Numbers>
+    ensures { MatchOption result ((letter : ℕ) → command_with letter (all_numbers (fields_of fields.now)) ≡ None)
+        (λ n. all_numbers (fields_of fields.now) ≡ Some n.items) }
+{
+    let mut numbers = ArrayVec::new();
+    for field in fields.split(|byte| *byte == b' ') {
+        numbers.try_push(number(field)?).ok()?;
     }
-    let second = first_number(first.rest)?;
-    if second.rest.is_empty() {
-        return Some(Numbers::Two(first.number, second.number));
-    }
-    let third = first_number(second.rest)?;
-    if third.rest.is_empty() {
-        return Some(Numbers::Three(first.number, second.number, third.number));
-    }
-    None
+    Some(numbers)
 }
 
 // The command of a letter with these numbers.
-fn command_by(letter: u8, numbers: Numbers) -> Option<Command>
-    ensures { result ≡ command_by letter (listed numbers) }
+fn command_by(letter: u8, numbers: &[u32]) -> Option<Command>
+    ensures { result ≡ command_by letter numbers.now }
 {
     match (letter, numbers) {
-        (b'm', Numbers::One(frames)) => Some(Command::Mount { frames }),
-        (b's', Numbers::Three(page, offset, byte)) => {
+        (b'm', &[frames]) => Some(Command::Mount { frames }),
+        (b's', &[page, offset, byte]) => {
             let byte = u8::try_from(byte).ok()?;
             Some(Command::Save { page, offset, byte })
         }
-        (b'g', Numbers::Two(page, offset)) => Some(Command::Get { page, offset }),
-        (b'k', Numbers::Zero) => Some(Command::Checkpoint),
-        (b'c', Numbers::Two(flash, disk)) => Some(Command::Cycle { flash, disk }),
+        (b'g', &[page, offset]) => Some(Command::Get { page, offset }),
+        (b'k', []) => Some(Command::Checkpoint),
+        (b'c', &[flash, disk]) => Some(Command::Cycle { flash, disk }),
         _ => None,
     }
 }
@@ -132,8 +113,6 @@ fn command_by(letter: u8, numbers: Numbers) -> Option<Command>
 pub fn parse(line: &[u8]) -> Option<Command>
     ensures { result ≡ command_of line.now }
 {
-    let Some(letter) = line.first() else {
-        return None;
-    };
-    command_by(*letter, numbers_of(&line[1..])?)
+    let (letter, rest) = line.split_first()?;
+    command_by(*letter, numbers_of(rest)?.as_slice())
 }

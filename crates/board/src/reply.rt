@@ -8,7 +8,7 @@ use std::alloc::{AllocError, Global};
 use std::fmt;
 
 // What a line is answered.
-#[derive(Clone, Copy)]
+#[derive(Clone, Copy, PartialEq, Eq, Debug)]
 pub enum Reply {
     Mounted(Mounted),
     // the version that the write made
@@ -33,11 +33,7 @@ impl fmt::Display for Reply {
             Reply::Got { byte, version } => write!(f, "g {byte} {version}"),
             Reply::Kept(count) => write!(f, "k {count}"),
             Reply::Cycled => write!(f, "c"),
-            Reply::Refused { letter, cause } => {
-                let letter = letter.text();
-                let number = cause.number();
-                write!(f, "{letter} -{number}")
-            }
+            Reply::Refused { letter, cause } => write!(f, "{letter} -{}", cause.number()),
             Reply::Unclear => write!(f, "?"),
         }
     }

@@ -1,18 +1,18 @@
 -- What a command does to a store, call by call, and what it replies.
-use Rattle.std.specs.Prelude.{◌≡◌, ℕ, cond, ◌⊎◌, [], ◌∷◌, Some, None, Ok, Err, Option, Result, nat_le, slice_index}
+use Rattle.std.specs.Prelude.{◌≡◌, ℕ, cond, [], ◌∷◌, Some, None, Ok, Err, Option, Result, nat_le, slice_index}
 use Rattle.medium.specs.Meaning.{Bytes}
 use Rattle.medium.specs.Outcome.{Gives}
 use Rattle.medium.specs.declared.Medium.{Ghosts}
 use Rattle.rules.specs.declared.fault.Fault.{Fault}
 use Rattle.rules.specs.declared.fault.Refusal.TheVariants as refusal
 use Rattle.rules.specs.declared.state.Mounted.{Mounted}
-use Rattle.rules.specs.declared.table.Grant.{Grant}
 use Rattle.rules.specs.Book.{Book}
 use Rattle.rules.specs.Promise.{Run}
-use Rattle.rules.specs.Store.{Store, step, mount, take_page, read, write, give_back, checkpoint, power_cycle}
-use Rattle.rules.specs.Store.{mounted, took, gave, wrote, given, saved, cycled}
+use Rattle.rules.specs.Store.{Store, step, mount, checkpoint, power_cycle}
+use Rattle.rules.specs.Store.{mounted, saved, cycled}
 use Rattle.store.specs.View.{answered, view, InOrder, InRun}
 use Rattle.store.specs.declared.store.Store.{Store as CodeStore}
+use Rattle.store_use.specs.Visits.{Puts, Looks}
 use Rattle.board.specs.declared.command.Command.{Command}
 use Rattle.board.specs.declared.command.Command.TheVariants as command
 use Rattle.board.specs.declared.command.Letter.{Letter}
@@ -30,37 +30,14 @@ abbrev pub got : ℕ → Bytes → ℕ → Reply
 got o body v =
     cond (nat_le 240 o) (reply.Refused letter.Get refusal.Length) (reply.Got (slice_index body o) v)
 
--- A page is taken, or the take is refused.
-abbrev pub RefusedTake : Letter → ℕ → Store → Store → Reply → Type 0
-RefusedTake l p x z r = (e : Fault) × Gives (step x (take_page p)) (Err e) z × (r ≡ reply.Refused l e.cause)
-
-abbrev pub Taken : ℕ → Store → Store → Grant → Type 0
-Taken p x y h = Gives (step x (take_page p)) (Ok (took h)) y
-
--- It is given back, whatever the answer.
-abbrev pub GivenBack : Grant → Store → Store → Type 0
-GivenBack h w z =
-    (g : Result (Unit {0}) Fault) × Gives (step w (give_back h.frame h.number)) (answered (λ u. given) g) z
-
--- Save: take, write one byte, give back.
+-- Save: one byte is put.
 abbrev pub Saves : ℕ → ℕ → ℕ → Store → Store → Reply → Type 0
-Saves p o b x z r =
-    RefusedTake letter.Save p x z r
-    ⊎ ((h : Grant) × (y w : Store) × (v : Result ℕ Fault)
-    × Taken p x y h
-    × Gives (step y (write h.frame h.number o (b ∷ []))) (answered wrote v) w
-    × GivenBack h w z
-    × (r ≡ replied letter.Save reply.Saved v))
+Saves p o b x z r = (v : Result ℕ Fault) × Puts p o (b ∷ []) x z v × (r ≡ replied letter.Save reply.Saved v)
 
--- Get: take, read, give back.
+-- Get: the page is looked at.
 abbrev pub Gets : ℕ → ℕ → Store → Store → Reply → Type 0
 Gets p o x z r =
-    RefusedTake letter.Get p x z r
-    ⊎ ((h : Grant) × (y w : Store) × (body : Bytes) × (v : Result ℕ Fault)
-    × Taken p x y h
-    × Gives (step y (read h.frame h.number 240)) (answered (gave body) v) w
-    × GivenBack h w z
-    × (r ≡ replied letter.Get (got o body) v))
+    (body : Bytes) × (v : Result ℕ Fault) × Looks p 240 body x z v × (r ≡ replied letter.Get (got o body) v)
 
 abbrev pub Replies : Command → Store → Store → Reply → Type 0
 Replies (command.Mount frames) x z r =

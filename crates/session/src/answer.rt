@@ -10,6 +10,7 @@ use format::page::BODY;
 use medium::Medium;
 use rules::fault::{Fault, Refusal};
 use store::store::Store;
+use store_use::{look, put};
 
 fn refused(letter: Letter, fault: Fault) -> Reply
     ensures { result ≡ reply.Refused letter fault.cause }
@@ -20,22 +21,14 @@ fn refused(letter: Letter, fault: Fault) -> Reply
     }
 }
 
-// Takes a page, writes a byte at an offset, and gives the page back.
+// Puts a byte at an offset of a page.
 fn save<F: Medium, D: Medium>(store: &mut Store<F, D>, page: u32, offset: u32, byte: u8) -> Reply
     ensures does { Answers F.Medium D.Medium store.old store.new
         (λ x z. InRun x (Saves page offset byte x z result)) }
     ensures goes { Goes F.Medium D.Medium store.old store.new }
 {
-    let hold = match store.take(page) {
-        Ok(hold) => hold,
-        Err(fault) => return refused(Letter::Save, fault),
-    };
-    let written = store.write(&hold, offset as usize, &[byte]);
-    let _ = store.give_back(hold);
-    match written {
-        Ok(version) => Reply::Saved(version),
-        Err(fault) => refused(Letter::Save, fault),
-    }
+    let version = put(store, page, offset as usize, &[byte]);
+    version.map_or_else(|fault| refused(Letter::Save, fault), Reply::Saved)
 }
 
 // What a read body shows at an offset.
@@ -54,23 +47,18 @@ fn shown(offset: u32, body: &[u8; BODY], version: u32) -> Reply
     }
 }
 
-// Takes a page, reads it, and gives it back; the reply is the byte at an offset.
+// Looks at a page; the reply is the byte at an offset.
 fn get<F: Medium, D: Medium>(store: &mut Store<F, D>, page: u32, offset: u32) -> Reply
     ensures does { Answers F.Medium D.Medium store.old store.new
         (λ x z. Gets page offset x z result) }
     ensures goes { Goes F.Medium D.Medium store.old store.new }
 {
-    let hold = match store.take(page) {
-        Ok(hold) => hold,
-        Err(fault) => return refused(Letter::Get, fault),
-    };
     let mut body = [0u8; BODY];
-    let read = store.read(&hold, &mut body);
-    let _ = store.give_back(hold);
-    match read {
-        Ok(version) => shown(offset, &body, version),
-        Err(fault) => refused(Letter::Get, fault),
-    }
+    let version = look(store, page, &mut body);
+    version.map_or_else(
+        |fault| refused(Letter::Get, fault),
+        |version| shown(offset, &body, version),
+    )
 }
 
 // Does what a command asks of a store, and replies.
@@ -80,16 +68,14 @@ pub fn answer<F: Medium, D: Medium>(store: &mut Store<F, D>, command: Command) -
     ensures goes { Goes F.Medium D.Medium store.old store.new }
 {
     match command {
-        Command::Mount { frames } => match store.mount(frames) {
-            Ok(found) => Reply::Mounted(found),
-            Err(fault) => refused(Letter::Mount, fault),
-        },
+        Command::Mount { frames } => store
+            .mount(frames)
+            .map_or_else(|fault| refused(Letter::Mount, fault), Reply::Mounted),
         Command::Save { page, offset, byte } => save(store, page, offset, byte),
         Command::Get { page, offset } => get(store, page, offset),
-        Command::Checkpoint => match store.checkpoint() {
-            Ok(count) => Reply::Kept(count),
-            Err(fault) => refused(Letter::Checkpoint, fault),
-        },
+        Command::Checkpoint => store
+            .checkpoint()
+            .map_or_else(|fault| refused(Letter::Checkpoint, fault), Reply::Kept),
         Command::Cycle { flash, disk } => {
             store.power_cycle(flash, disk);
             Reply::Cycled

@@ -24,8 +24,7 @@ pub fn put<F: Medium, D: Medium>(
 {
     let hold = store.take(page)?;
     let version = store.write(&hold, offset, bytes);
-    store.give_back(hold)?;
-    version
+    store.give_back(hold).and(version)
 }
 
 // Reads a page into a buffer, and answers its version.
@@ -36,13 +35,11 @@ pub fn look<F: Medium, D: Medium>(
 ) -> Result<u32, Fault>
     ensures keeps { InOrder F.Medium D.Medium store.old → InOrder F.Medium D.Medium store.new }
     ensures does { InOrder F.Medium D.Medium store.old
-        → InRun (view F.Medium D.Medium store.old)
-        (Looks page (length into.old) into.new (view F.Medium D.Medium store.old) (view F.Medium D.Medium store.new) result) }
+        → Looks page (length into.old) into.new (view F.Medium D.Medium store.old) (view F.Medium D.Medium store.new) result }
 {
     let hold = store.take(page)?;
     let version = store.read(&hold, into);
-    store.give_back(hold)?;
-    version
+    store.give_back(hold).and(version)
 }
 
 // Puts a body that another page has into a page, with both held, and answers the new version.
@@ -54,8 +51,7 @@ pub fn copy<F: Medium, D: Medium>(store: &mut Store<F, D>, from: u32, to: u32) -
 {
     let source = store.take(from)?;
     let version = copy_into(store, &source, to);
-    store.give_back(source)?;
-    version
+    store.give_back(source).and(version)
 }
 
 fn copy_into<F: Medium, D: Medium>(

@@ -1,26 +1,28 @@
-use Rattle.std.proofs.Common.{Err, ap, ◌∙◌, inr}
-use Rattle.std.proofs.lemmas.Result.{err_from_is_err_and}
+use Rattle.std.proofs.Common.{◌∙◌, inr, length}
 use Rattle.store.specs.View.{view}
+use Rattle.store_use.proofs.Answered.{read_answered}
 use Rattle.store_use.proofs.look.Goals as goal
 
-pub returns-in_err-give_back-clause-does : goal.returns-in_err-give_back-clause-does
-returns-in_err-give_back-clause-does g c = λ o.
-    λ b run.
+pub returns-clause-does : goal.returns-clause-does
+returns-clause-does g c = λ o.
     let see = view g.F.Medium g.D.Medium in
+    let h = c.in_ok-hold.hold.grant in
+    let y = see c.take.new.self in
+    let w = see c.read-version.new.self in
     let (held, taken) = c.in_ok-hold.ensures.does o in
     let (kept, did) = c.read-version.ensures.does held in
-    let back = c.in_err-give_back.ensures.does kept in
-    let e =
-    err_from_is_err_and c.from_residual-in_err-give_back.result
-    c.from_residual-in_err-give_back.ensures.1 in
+    let (still, back) = c.give_back.ensures.does kept in
+    let same =
+    read_answered h.frame h.number c.read-version.result c.give_back.result (see c.give_back.new.self) y w
+    (length c.args.into.now) c.read-version.new.into did back in
     inr (
-      c.in_ok-hold.hold.grant,
-      see c.take.new.self,
-      see c.read-version.new.self,
+      h,
+      y,
+      w,
       c.read-version.result,
-      Err c.in_err-give_back.field-0.0,
+      c.give_back.result,
       taken,
-      did,
-      back.1,
-      e.1 ∙ ap Err e.2,
+      (did, c.and.ensures ∙ same),
+      back,
+      c.and.ensures,
     )

@@ -1,50 +1,32 @@
-use Rattle.std.proofs.Common.{Ok, Err, ap, ◌∙◌, refl, inr}
-use Rattle.std.proofs.lemmas.Result.{err_from_is_err_and}
+use Rattle.std.proofs.Common.{◌∙◌, inr}
 use Rattle.rules.proofs.InRange.{still_in_range}
 use Rattle.store.specs.View.{view}
+use Rattle.store_use.proofs.Answered.{write_answered}
 use Rattle.store_use.proofs.put.Goals as goal
 
-pub returns-in_err-give_back-clause-does : goal.returns-in_err-give_back-clause-does
-returns-in_err-give_back-clause-does g c = λ o.
-    λ b run.
-    let see = view g.F.Medium g.D.Medium in
-    let y = see c.take.new.self in
-    let (held, taken) = c.in_ok-hold.ensures.does o in
-    let low = still_in_range (see c.args.store.now) y _ _ (c.in_ok-hold.ensures.stands o) b run in
-    let (kept, did) = c.write-version.ensures.does low held in
-    let back = c.in_err-give_back.ensures.does kept in
-    let e =
-    err_from_is_err_and c.from_residual-in_err-give_back.result
-    c.from_residual-in_err-give_back.ensures.1 in
-    inr (
-      c.in_ok-hold.hold.grant,
-      y,
-      see c.write-version.new.self,
-      c.write-version.result,
-      Err c.in_err-give_back.field-0.0,
-      taken,
-      did,
-      back.1,
-      e.1 ∙ ap Err e.2,
-    )
-
+-- After the take the version is in range, when it is written.
 pub returns-clause-does : goal.returns-clause-does
 returns-clause-does g c = λ o.
     λ b run.
     let see = view g.F.Medium g.D.Medium in
+    let h = c.in_ok-hold.hold.grant in
     let y = see c.take.new.self in
+    let w = see c.write-version.new.self in
     let (held, taken) = c.in_ok-hold.ensures.does o in
     let low = still_in_range (see c.args.store.now) y _ _ (c.in_ok-hold.ensures.stands o) b run in
     let (kept, did) = c.write-version.ensures.does low held in
-    let back = c.in_ok-give_back.ensures.does kept in
+    let (still, back) = c.give_back.ensures.does kept in
+    let same =
+    write_answered h.frame h.number c.write-version.result c.give_back.result (see c.give_back.new.self) y w
+    c.args.offset c.args.bytes.now did back in
     inr (
-      c.in_ok-hold.hold.grant,
+      h,
       y,
-      see c.write-version.new.self,
+      w,
       c.write-version.result,
-      Ok tt,
+      c.give_back.result,
       taken,
-      did,
-      back.1,
-      refl,
+      (did, c.and.ensures ∙ same),
+      back,
+      c.and.ensures,
     )
