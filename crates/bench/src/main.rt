@@ -1,6 +1,7 @@
 #![tactic(auto)]
 
 use media::card::Card;
+use media::strike::Strike;
 use media::tray::Tray;
 use session::play::play;
 use std::io;
@@ -11,10 +12,8 @@ fn main(rt: HostRuntime) -> io::Result<()> {
     let mut flash = [0u8; 33 * 257];
     let mut disk = [0u8; 8 * 272];
     let mut store = Store::new(
-        Tray::new(&mut flash, 2, 1000),
+        Tray::new(&mut flash, Strike::Torn as u8, 1000),
         Card::new(&mut disk, 8, 1000),
     );
-    let played = play(&rt, &mut store);
-    let (_flash, _disk) = store.into_media();
-    played
+    play(&rt, &mut store)
 }

@@ -85,9 +85,7 @@ fn play(rt: &HostRuntime, charges: (u32, u32), strikes: (u8, u8)) -> io::Result<
         Tray::new(&mut flash, strikes.0, charges.0),
         Card::new(&mut disk, strikes.1, charges.1),
     );
-    let told = tell_run(rt, &mut store);
-    let (_flash, _disk) = store.into_media();
-    told
+    tell_run(rt, &mut store)
 }
 
 // A cut at each write of the run, on the flash and on the disk, with strikes of each kind.

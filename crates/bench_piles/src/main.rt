@@ -3,6 +3,7 @@
 use layers::read_buffer::ReadBuffer;
 use layers::window::Window;
 use media::card::Card;
+use media::strike::Strike;
 use media::tray::Tray;
 use session::play::play;
 use std::io;
@@ -13,13 +14,11 @@ use store::store::Store;
 fn main(rt: HostRuntime) -> io::Result<()> {
     let mut flash = [0u8; 40 * 257];
     let mut disk = [0u8; 11 * 272];
-    let tray = Tray::new(&mut flash, 2, 1000);
+    let tray = Tray::new(&mut flash, Strike::Torn as u8, 1000);
     let card = Card::new(&mut disk, 8, 1000);
     let mut store = Store::new(
         Window::new(5, 33, ReadBuffer::new(tray)),
         ReadBuffer::new(Window::new(2, 8, card)),
     );
-    let played = play(&rt, &mut store);
-    let (_flash, _disk) = store.into_media();
-    played
+    play(&rt, &mut store)
 }

@@ -7,6 +7,7 @@ use rules::trailer::Trailer;
 
 // A flash queue over a disk: the two media, the first live number and the last, and the directory, which has the
 // trailer of each live number in the slot of its frame.
+#[derive(Drop)]
 pub struct Queue<F, D> {
     pub(crate) flash: F,
     pub(crate) disk: D,

@@ -1,7 +1,8 @@
 // The run, cut at every single write, and gone on with.
 use crate::run::{STEPS, Stop, play};
 use crate::seen::{at_end, holds_all};
-use crate::stage::{Strike, on_all};
+use crate::stage::on_all;
+use media::strike::Strike;
 use medium::Medium;
 use queue::queue::Queue;
 use rules::fault::{Fault, Refusal, Side};

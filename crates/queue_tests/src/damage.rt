@@ -1,6 +1,6 @@
 // What recovery and checked reads say of a flash of which some bytes were changed.
 use crate::run::play;
-use crate::stage::{on, torn};
+use crate::stage::torn;
 use medium::Medium;
 use queue::queue::Queue;
 use rules::fault::{Fault, Refusal, Side};
@@ -67,11 +67,9 @@ const AFTER_50: [Row; 9] = [
     ((32, 244, 40), Ok((50, 11, 9))),
 ];
 
-fn fill(rt: &impl Abort, flash: &mut [u8], disk: &mut [u8], steps: u8) -> Result<(), Fail> {
-    on(torn(flash, 1000), torn(disk, 1000), |queue| {
-        assert_eq!(rt; play(queue, 1, steps), Ok(()));
-        Ok(())
-    })
+fn fill(rt: &impl Abort, flash: &mut [u8], disk: &mut [u8], steps: u8) {
+    let mut queue = Queue::new(torn(flash, 1000), torn(disk, 1000));
+    assert_eq!(rt; play(&mut queue, 1, steps), Ok(()));
 }
 
 fn foreign(page: u16) -> Fault {
@@ -110,7 +108,7 @@ fn reads_seven<F: Medium, D: Medium>(
 fn damaged(rt: &impl Abort, steps: u8, change: Change) -> Result<([u8; 8481], [u8; 2056]), Fail> {
     let mut flash = [0u8; 8481];
     let mut disk = [0u8; 2056];
-    fill(rt, &mut flash, &mut disk, steps)?;
+    fill(rt, &mut flash, &mut disk, steps);
     let (page, at, byte) = change;
     let at = usize::from(page) * 257 + usize::from(at);
     if at < flash.len() {
@@ -123,10 +121,10 @@ fn damaged(rt: &impl Abort, steps: u8, change: Change) -> Result<([u8; 8481], [u
 fn all_recover(rt: &impl Abort, steps: u8, rows: &[Row]) -> Result<(), Fail> {
     for (change, found) in rows {
         let (mut flash, mut disk) = damaged(rt, steps, *change)?;
-        on(
-            torn(&mut flash, 1000),
-            torn(&mut disk, 0),
-            |queue| recovers(rt, queue, *found),
+        recovers(
+            rt,
+            &mut Queue::new(torn(&mut flash, 1000), torn(&mut disk, 0)),
+            *found,
         )?;
     }
     Ok(())
@@ -137,10 +135,10 @@ fn after_20(rt: HostRuntime) -> Result<(), Fail> {
     all_recover(&rt, 20, &AFTER_20)?;
     for (change, is_read) in &SEVEN_AFTER_20 {
         let (mut flash, mut disk) = damaged(&rt, 20, *change)?;
-        on(
-            torn(&mut flash, 1000),
-            torn(&mut disk, 0),
-            |queue| reads_seven(&rt, queue, *is_read),
+        reads_seven(
+            &rt,
+            &mut Queue::new(torn(&mut flash, 1000), torn(&mut disk, 0)),
+            *is_read,
         )?;
     }
     Ok(())
@@ -156,12 +154,12 @@ fn after_50(rt: HostRuntime) -> Result<(), Fail> {
 fn segment_out_of_place(rt: HostRuntime) -> Result<(), Fail> {
     let mut flash = [0u8; 8481];
     let mut disk = [0u8; 2056];
-    fill(&rt, &mut flash, &mut disk, 20)?;
+    fill(&rt, &mut flash, &mut disk, 20);
     let (to, from) = flash.split_at_mut(31 * 257);
     from[0..257].copy_from_slice(&to[30 * 257..31 * 257]);
-    on(
-        torn(&mut flash, 1000),
-        torn(&mut disk, 0),
-        |queue| recovers(&rt, queue, Err(31)),
+    recovers(
+        &rt,
+        &mut Queue::new(torn(&mut flash, 1000), torn(&mut disk, 0)),
+        Err(31),
     )
 }

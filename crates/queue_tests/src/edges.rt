@@ -1,6 +1,6 @@
 // The queue in the dark, and with no number left.
 use crate::run::{Stop, play};
-use crate::stage::{on, torn};
+use crate::stage::torn;
 use format::segment::{Summary, write_segment};
 use medium::{Medium, PAGE};
 use queue::queue::Queue;
@@ -28,10 +28,9 @@ fn stays_dark<F: Medium, D: Medium>(rt: &impl Abort, queue: &mut Queue<F, D>) ->
 
 #[test]
 fn in_the_dark(rt: HostRuntime) -> Result<(), Fail> {
-    on(
-        torn(&mut [0; 8481], 0),
-        torn(&mut [0; 2056], 0),
-        |queue| stays_dark(&rt, queue),
+    stays_dark(
+        &rt,
+        &mut Queue::new(torn(&mut [0; 8481], 0), torn(&mut [0; 2056], 0)),
     )
 }
 
@@ -80,9 +79,8 @@ fn spent(rt: HostRuntime) -> Result<(), Fail> {
     let (_, from) = flash.split_at_mut(31 * 257);
     from[0..PAGE].copy_from_slice(&late_segment());
     from[PAGE] = 1;
-    on(
-        torn(&mut flash, 1000),
-        torn(&mut [0; 2056], 0),
-        |queue| goes_to_the_last(&rt, queue),
+    goes_to_the_last(
+        &rt,
+        &mut Queue::new(torn(&mut flash, 1000), torn(&mut [0; 2056], 0)),
     )
 }

@@ -3,28 +3,18 @@ use crate::cuts::{Cut, through};
 use layers::read_buffer::ReadBuffer;
 use layers::window::Window;
 use media::card::Card;
+use media::strike::Strike;
 use media::tray::Tray;
-use medium::Medium;
 use queue::queue::Queue;
 use std::process::Abort;
 use std::test::Fail;
 
-// What a strike leaves, by its number for a tray.
-#[derive(Clone, Copy, PartialEq, Eq)]
-pub enum Strike {
-    Old = 0,
-    New = 1,
-    Torn = 2,
-}
-
-impl Strike {
-    // After how many sectors of a card it strikes.
-    fn sectors(self) -> u8 {
-        match self {
-            Strike::Old => 0,
-            Strike::New => 16,
-            Strike::Torn => 8,
-        }
+// After how many sectors of a card such a strike stops.
+fn sectors(strike: Strike) -> u8 {
+    match strike {
+        Strike::Old => 0,
+        Strike::New => 16,
+        Strike::Torn => 8,
     }
 }
 
@@ -33,7 +23,7 @@ fn tray(bytes: &mut [u8], strike: Strike, charge: u32) -> Tray<'_> {
 }
 
 fn card(bytes: &mut [u8], strike: Strike, charge: u32) -> Card<'_> {
-    Card::new(bytes, strike.sectors(), charge)
+    Card::new(bytes, sectors(strike), charge)
 }
 
 // A window over a read buffer over a tray that has a page more before it and one after it.
@@ -46,36 +36,31 @@ pub(crate) fn torn(bytes: &mut [u8], charge: u32) -> Tray<'_> {
     tray(bytes, Strike::Torn, charge)
 }
 
-// Does something with a queue over two media.
-pub(crate) fn on<F, D, C>(flash: F, disk: D, check: C) -> Result<(), Fail>
-where
-    F: Medium + Drop,
-    D: Medium + Drop,
-    C: FnOnce(&mut Queue<F, D>) -> Result<(), Fail>,
-    requires { C.IsAlwaysCallable check }
-{
-    let mut queue = Queue::new(flash, disk);
-    let answer = check(&mut queue);
-    let (_flash, _disk) = queue.into_media();
-    answer
-}
-
 // The run with this cut, on media of three kinds.
 pub(crate) fn on_all(rt: &impl Abort, cut: &Cut) -> Result<(), Fail> {
     let strike = cut.strike;
-    on(
-        tray(&mut [0; 8481], strike, cut.flash),
-        card(&mut [0; 2176], strike, cut.disk),
-        |queue| through(rt, queue, cut),
+    through(
+        rt,
+        &mut Queue::new(
+            tray(&mut [0; 8481], strike, cut.flash),
+            card(&mut [0; 2176], strike, cut.disk),
+        ),
+        cut,
     )?;
-    on(
-        card(&mut [0; 8976], strike, cut.flash),
-        tray(&mut [0; 2056], strike, cut.disk),
-        |queue| through(rt, queue, cut),
+    through(
+        rt,
+        &mut Queue::new(
+            card(&mut [0; 8976], strike, cut.flash),
+            tray(&mut [0; 2056], strike, cut.disk),
+        ),
+        cut,
     )?;
-    on(
-        pile(&mut [0; 8995], 33, strike, cut.flash),
-        pile(&mut [0; 2570], 8, strike, cut.disk),
-        |queue| through(rt, queue, cut),
+    through(
+        rt,
+        &mut Queue::new(
+            pile(&mut [0; 8995], 33, strike, cut.flash),
+            pile(&mut [0; 2570], 8, strike, cut.disk),
+        ),
+        cut,
     )
 }

@@ -5,6 +5,7 @@ use queue::queue::Queue;
 use rules::state::State;
 
 // A store of show pages: RAM frames over a flash queue over a disk.
+#[derive(Drop)]
 pub struct Store<F, D> {
     pub(crate) state: State,
     pub(crate) frames: Frames,
