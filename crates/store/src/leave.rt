@@ -42,8 +42,9 @@ impl<F: Medium, D: Medium> Store<F, D> {
 
     // Enqueues the page of a frame.
     pub(crate) fn enqueue_frame(&mut self, frame: Frame, page: u16) -> Result<(), Fault>
-        ensures { Works F.Medium D.Medium self.old self.new result
+        ensures works { Works F.Medium D.Medium self.old self.new result
             (λ x. enqueue_frame x frame page) }
+        ensures holds { self.new.holds ≡ self.old.holds }
     {
         let answer = self.hand_over(frame, page);
         heard(&mut self.state, answer)
@@ -58,8 +59,9 @@ impl<F: Medium, D: Medium> Store<F, D> {
 
     // Takes the page out of a frame, by way of the flash if it must.
     pub(crate) fn empty_frame(&mut self, frame: Frame) -> Result<(), Fault>
-        ensures { Works F.Medium D.Medium self.old self.new result
+        ensures works { Works F.Medium D.Medium self.old self.new result
             (λ x. empty_frame x frame) }
+        ensures holds { self.new.holds ≡ self.old.holds }
     {
         let card = self.frames.card(frame);
         if let Some(page) = card.page {

@@ -1,16 +1,16 @@
-use Rattle.std.proofs.Common.{ap, ◌∙◌}
+use Rattle.std.proofs.Common.{◌+◌, sym, ap, ◌∙◌}
 use Rattle.std.proofs.lemmas.Result.{err_from_is_err_and}
 use Rattle.rules.specs.declared.table.Card.{Card}
 use Rattle.store.specs.View.{view, granted}
-use Rattle.store.proofs.Taking.{is_next, next_hold, brought, not_brought}
+use Rattle.store.proofs.Taking.{is_next, brought, not_brought}
 use Rattle.store.proofs.store.Store.bring.Goals as goal
 
 pub returns-in_err-fetch : goal.returns-in_err-fetch
 returns-in_err-fetch g c = λ o.
     let see = view g.F.Medium g.D.Medium in
     let (some, own) = is_next c.args.self.now.holds c.in_ok-number.number _ c.next_number.ensures.value c.in_ok-number.was in
-    let (still, out) = c.in_ok-empty_frame.ensures o in
-    let (kept, failed) = c.in_err-fetch.ensures still in
+    let (still, out) = c.in_ok-empty_frame.ensures.works o in
+    let (kept, failed) = c.in_err-fetch.ensures.works still in
     let e = err_from_is_err_and c.from_residual-in_err-fetch.result c.from_residual-in_err-fetch.ensures.1 in
     rw (e.1, e.2) (
       kept,
@@ -26,9 +26,9 @@ returns g c = λ o.
     let y = see c.empty_frame.new.self in
     let z = see c.fetch.new.self in
     let (some, own) = is_next c.args.self.now.holds c.in_ok-number.number _ c.next_number.ensures.value c.in_ok-number.was in
-    let (still, out) = c.in_ok-empty_frame.ensures o in
-    let (there, came) = c.in_ok-fetch.ensures still in
-    let (kept, held) = c.hold_frame.ensures (own ∙ next_hold x y z c.in-Some.frame c.args.page out came) there in (
+    let (still, out) = c.in_ok-empty_frame.ensures.works o in
+    let (there, came) = c.in_ok-fetch.ensures.works still in
+    let (kept, held) = c.hold_frame.ensures (own ∙ ap (λ n. n + 1) (sym (c.in_ok-fetch.ensures.holds ∙ c.in_ok-empty_frame.ensures.holds))) there in (
       kept,
       brought x c.args.page c.in-Some.frame c.card-evicted.result.page c.in-Some.ensures
           some (ap (λ (k : Card). k.page) c.card-evicted.ensures) y out z

@@ -1,4 +1,4 @@
-use Rattle.std.proofs.Common.{◌≡◌, ℕ, Ok, sym, subst}
+use Rattle.std.proofs.Common.{◌≡◌, ℕ, Ok, sym, refl, subst}
 use Rattle.medium.specs.declared.Medium.{Ghosts}
 use Rattle.medium.specs.Outcome.{Gives}
 use Rattle.rules.specs.Ram.{empty, with_card}
@@ -26,8 +26,8 @@ met {F} {D} a b x f m n fr is so kept g = (
       (subst (λ (s : Store F D). Gives (empty_frame x f) (Ok tt) (emptied (view a b s) f)) (sym is) g),
 )
 
-pub returns : goal.returns
-returns g c = λ o.
+pub returns-clause-works : goal.returns-clause-works
+returns-clause-works g c = λ o.
     let see = view g.F.Medium g.D.Medium in
     let x = see c.args.self.now in
     let f = c.args.frame in
@@ -35,7 +35,7 @@ returns g c = λ o.
     let own = c.card-card.ensures in
     elim c.match-card.branch [
       | in-Some+then-must_go+in_ok-enqueue_frame w ↦
-          let (kept, put) = w.in_ok-enqueue_frame.ensures o in
+          let (kept, put) = w.in_ok-enqueue_frame.ensures.works o in
           met g.F.Medium g.D.Medium x f _ _ c.empty.new.self w.self-is c.empty.ensures kept
           (was_queued x f k own w.in-Some.page w.in-Some.is w.if-must_go.ensures _ put)
       | in-Some+else-must_go w ↦
@@ -43,4 +43,12 @@ returns g c = λ o.
           (was_dropped x f k own w.in-Some.page w.in-Some.is w.if-must_go.ensures)
       | in_default w ↦
           met g.F.Medium g.D.Medium x f _ _ c.empty.new.self w.self-is c.empty.ensures o (was_empty x f k own w.in_default.is)
+    ]
+
+pub returns-clause-holds : goal.returns-clause-holds
+returns-clause-holds g c =
+    elim c.match-card.branch [
+      | in-Some+then-must_go+in_ok-enqueue_frame w ↦ rw w.self-is w.in_ok-enqueue_frame.ensures.holds
+      | in-Some+else-must_go w ↦ rw w.self-is refl
+      | in_default w ↦ rw w.self-is refl
     ]

@@ -6,8 +6,8 @@ use Rattle.store.specs.View.{view, ram_of}
 use Rattle.store.proofs.Leaving.{enqueued_so}
 use Rattle.store.proofs.store.Store.enqueue_frame.Goals as goal
 
-pub returns : goal.returns
-returns g c = λ o.
+pub returns-clause-works : goal.returns-clause-works
+returns-clause-works g c = λ o.
     let see = view g.F.Medium g.D.Medium in
     let x = see c.args.self.now in
     let f = c.args.frame in

@@ -3,8 +3,8 @@ use Rattle.store.specs.View.{view}
 use Rattle.store.proofs.Fetching.{from_disk_given}
 use Rattle.store.proofs.store.Store.load_from_disk.Goals as goal
 
-pub returns : goal.returns
-returns g c = λ o.
+pub returns-clause-works : goal.returns-clause-works
+returns-clause-works g c = λ o.
     let x = view g.F.Medium g.D.Medium c.args.self.now in
     let (kept, same, found) = c.in_ok-bytes.ensures o in (
       kept,

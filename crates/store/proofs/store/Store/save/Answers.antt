@@ -6,7 +6,7 @@ use Rattle.store.proofs.store.Store.save.Goals as goal
 pub returns-in_err-enqueue_frame : goal.returns-in_err-enqueue_frame
 returns-in_err-enqueue_frame g c = λ o.
     let see = view g.F.Medium g.D.Medium in
-    let (kept, failed) = c.in_err-enqueue_frame.ensures o in
+    let (kept, failed) = c.in_err-enqueue_frame.ensures.works o in
     let e = err_from_is_err_and c.from_residual.result c.from_residual.ensures.1 in
     rw (e.1, e.2) (
       kept,
