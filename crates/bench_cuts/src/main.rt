@@ -77,13 +77,28 @@ fn tell_run<F: Medium, D: Medium>(rt: &HostRuntime, store: &mut Store<F, D>) -> 
     println!(rt; "")
 }
 
-// The run over media with these charges, whose strikes leave what these numbers say.
-fn play(rt: &HostRuntime, charges: (u32, u32), strikes: (u8, u8)) -> io::Result<()> {
-    let mut flash = [0u8; 33 * 257];
-    let mut disk = [0u8; 8 * 272];
+// A medium's charge, and the number of what a strike leaves on it.
+#[derive(Clone, Copy)]
+struct Power {
+    charge: u32,
+    strike: u8,
+}
+
+// A medium whose power does not fail in a run.
+fn steady(strike: u8) -> Power {
+    Power {
+        charge: 9000,
+        strike,
+    }
+}
+
+// The run over a flash and a disk of which the power fails so.
+fn play(rt: &HostRuntime, flash: Power, disk: Power) -> io::Result<()> {
+    let mut frames = [0u8; 33 * 257];
+    let mut pages = [0u8; 8 * 272];
     let mut store = Store::new(
-        Tray::new(&mut flash, strikes.0, charges.0),
-        Card::new(&mut disk, strikes.1, charges.1),
+        Tray::new(&mut frames, flash.strike, flash.charge),
+        Card::new(&mut pages, disk.strike, disk.charge),
     );
     tell_run(rt, &mut store)
 }
@@ -93,11 +108,12 @@ fn main(rt: HostRuntime) -> io::Result<()> {
     for strike in 0..3u8 {
         for charge in 0..110u32 {
             print!(rt; "flash {charge} strike {strike}:")?;
-            play(&rt, (charge, 9000), (strike, 8))?;
+            play(&rt, Power { charge, strike }, steady(8))?;
         }
         for charge in 0..16u32 {
             print!(rt; "disk {charge} strike {strike}:")?;
-            play(&rt, (9000, charge), (2, strike * 8))?;
+            let strike = strike * 8;
+            play(&rt, steady(2), Power { charge, strike })?;
         }
     }
     Ok(())
