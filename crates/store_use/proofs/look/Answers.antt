@@ -1,4 +1,4 @@
-use Rattle.std.proofs.Common.{Err, ap, ◌∙◌, inr}
+use Rattle.std.proofs.Common.{Ok, Err, ap, ◌∙◌, refl, inr}
 use Rattle.std.proofs.lemmas.Result.{err_from_is_err_and}
 use Rattle.store.specs.View.{view}
 use Rattle.store_use.proofs.look.Goals as goal
@@ -23,4 +23,23 @@ returns-in_err-give_back-clause-does g c = λ o.
       did,
       back.1,
       e.1 ∙ ap Err e.2,
+    )
+
+pub returns-clause-does : goal.returns-clause-does
+returns-clause-does g c = λ o.
+    λ b run.
+    let see = view g.F.Medium g.D.Medium in
+    let (held, taken) = c.in_ok-hold.ensures.does o in
+    let (kept, did) = c.read-version.ensures.does held in
+    let back = c.in_ok-give_back.ensures.does kept in
+    inr (
+      c.in_ok-hold.hold.grant,
+      see c.take.new.self,
+      see c.read-version.new.self,
+      c.read-version.result,
+      Ok tt,
+      taken,
+      did,
+      back.1,
+      refl,
     )
