@@ -2,10 +2,10 @@ ghost use Rattle.std.specs.Prelude.{◌≡◌, ◌≤◌};
 ghost use Rattle.rules.specs.Queue.{checked, dequeue, must_save};
 ghost use Rattle.queue.specs.View.{Does, Finds, view};
 
-use crate::directory::number_of;
 use crate::queue::Queue;
 use format::page::is_like;
 use medium::{Medium, PAGE};
+use ranked::Ranked;
 use rules::fault::{Fault, Refusal, Side};
 use rules::trailer::Trailer;
 
@@ -27,7 +27,7 @@ impl<F: Medium, D: Medium> Queue<F, D> {
     fn must_save(&self, entry: &Trailer) -> bool
         ensures { result ≡ must_save (view F.Medium D.Medium self.now) entry.now }
     {
-        entry.dirty && number_of(self.valid(entry.page)) == entry.q
+        entry.dirty && self.valid(entry.page).get_rank() == entry.q
     }
 
     // The front entry leaves; if it is valid and dirty, its page is first written to the disk.

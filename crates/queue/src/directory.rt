@@ -1,5 +1,5 @@
 ghost use Rattle.std.specs.Prelude.{◌≡◌, ◌≤◌, None, slice_index_or, slice_set};
-ghost use Rattle.rules.specs.Queue.{slot as slot_of, entry as entry_of, valid, number, entered};
+ghost use Rattle.rules.specs.Queue.{slot as slot_of, entry as entry_of, valid, entered};
 ghost use Rattle.queue.specs.View.{InOrder, view, Changes, cleared};
 
 use crate::queue::Queue;
@@ -21,13 +21,6 @@ fn put_slot(entries: &mut [Option<Trailer>; SLOTS], slot: u16, entry: Option<Tra
     if i < SLOTS {
         entries[i] = entry;
     }
-}
-
-// The number of an entry, 0 if there is none.
-pub(crate) fn number_of(entry: Option<Trailer>) -> u32
-    ensures { result ≡ number entry }
-{
-    entry.map_or(0, |trailer| trailer.q)
 }
 
 impl<F: Medium, D: Medium> Queue<F, D> {

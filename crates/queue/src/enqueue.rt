@@ -4,11 +4,11 @@ ghost use Rattle.rules.specs.Queue.{append, describe_due, enqueue, make_room, nu
 ghost use Rattle.queue.specs.Parts.{put_frame};
 ghost use Rattle.queue.specs.View.{Does, view};
 
-use crate::directory::number_of;
 use crate::queue::Queue;
 use crate::segment::segment_bytes;
 use format::page::{BODY, write_page};
 use medium::{Medium, PAGE};
+use ranked::Ranked;
 use recovery::places::{GROUP, frames_of, segment_page};
 use rules::fault::{Fault, Refusal};
 use rules::trailer::{MOST, Trailer};
@@ -33,7 +33,7 @@ impl<F: Medium, D: Medium> Queue<F, D> {
         ensures back { IfOk result (λ n. n ≡ number (valid (view F.Medium D.Medium self.new) page)) }
     {
         self.make_room()?;
-        Ok(number_of(self.valid(page)))
+        Ok(self.valid(page).get_rank())
     }
 
     // Writes the segment that ends at the last number.

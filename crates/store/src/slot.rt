@@ -33,11 +33,11 @@ impl Ranked for Slot {
     ghost rank = { λ s. s.card.version };
 
     fn get_page(&self) -> Option<u16> {
-        self.card.page
+        self.card.get_page()
     }
 
     fn get_rank(&self) -> u32 {
-        self.card.version
+        self.card.get_rank()
     }
 }
 

@@ -64,9 +64,8 @@ impl<F: Medium, D: Medium> Store<F, D> {
         ensures { Works F.Medium D.Medium self.old self.new (answered granted result)
             (λ x. take_of x page None) }
     {
-        let Some(frame) = self.frames.last_free() else {
-            return Err(Fault::plain(Refusal::AllHeld));
-        };
+        let all_held = Fault::plain(Refusal::AllHeld);
+        let frame = self.frames.last_free().ok_or(all_held)?;
         let number = self.next_number()?;
         let evicted = self.frames.card(frame).page;
         self.empty_frame(frame)?;
