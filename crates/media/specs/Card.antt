@@ -7,6 +7,10 @@ use Rattle.media.specs.Lent.{Coding, over}
 abbrev pub card_count : Bytes → ℕ
 card_count bs = min (length bs / 272) 65535
 
+-- The bytes of page i alone: in these it is page 0.
+abbrev pub sectors_of : Bytes → ℕ → Bytes
+sectors_of bs i = take 272 (drop (i * 272) bs)
+
 -- The tick of sector s of page i, and byte k of its content.
 abbrev pub tick : Bytes → ℕ → ℕ → ℕ
 tick bs i s = slice_index bs (i * 272 + s * 17 + 16)

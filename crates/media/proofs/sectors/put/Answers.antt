@@ -1,11 +1,19 @@
-use Rattle.std.proofs.Common.{◌≡◌, refl, ap, ◌∙◌, arith}
-use Rattle.media.specs.Card.{put_sectors}
-use Rattle.media.specs.Laws.Ticks.{next_tick_only}
+use Rattle.std.proofs.Common.{◌≡◌, ◌+◌, ◌-◌, ◌*◌, add-one, refl, ap, ◌∙◌, subst, arith}
+use Rattle.medium.specs.Meaning.{Bytes}
+use Rattle.media.specs.Card.{NextTick, put_sectors}
+use Rattle.media.specs.Laws.Alone.{next_alone}
 use Rattle.media.proofs.sectors.put.Goals as goal
 
 pub loop-sector-init : goal.loop-sector-init
 unfolding put_sectors
 loop-sector-init c = refl
+
+pub loop-sector-preserved : goal.loop-sector-preserved
+unfolding put_sectors
+loop-sector-preserved c =
+    let n = c.loop-sector.sector in
+    let e : n * 16 + 16 - n * 16 ≡ 16 = omega arith in
+    rw add-one (c.put_at.ensures ∙ rw (c.loop-sector.invariant, c.from-start.ensures, e) refl)
 
 pub returns : goal.returns
 returns c =
@@ -14,4 +22,5 @@ returns c =
     c.loop-sector.invariant
     ∙ ap (λ n. put_sectors bs c.args.page c.free_tick-mark.result c.args.from.now n) end
     ∙ ap (λ t. put_sectors bs c.args.page t c.args.from.now c.args.sectors)
-    (next_tick_only bs c.args.page c.free_tick-mark.result c.free_tick-mark.ensures)
+    (next_alone bs c.args.page c.free_tick-mark.result
+    (subst (λ (xs : Bytes). NextTick xs 0 c.free_tick-mark.result) c.of.ensures c.free_tick-mark.ensures))

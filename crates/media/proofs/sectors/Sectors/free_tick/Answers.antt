@@ -4,7 +4,7 @@ use Rattle.std.proofs.lemmas.Iterator.{first_from_Range}
 use Rattle.medium.specs.Meaning.{Bytes}
 use Rattle.media.specs.Card.{Carried, NextTick}
 use Rattle.media.specs.Laws.Ticks.{not_all_carried}
-use Rattle.media.proofs.sectors.free_tick.Goals as goal
+use Rattle.media.proofs.sectors.Sectors.free_tick.Goals as goal
 
 module _ (bs : Bytes) (i : ℕ) where
   -- What the search found: no tick, or the first that no sector carries.
@@ -21,15 +21,15 @@ module _ (bs : Bytes) (i : ℕ) where
 
 pub unwrap-requires : goal.unwrap-requires
 unwrap-requires c =
-    let bs = c.args.bytes.now in
-    some_free bs c.args.page c.find.result
-    (first_from_Range _ _ _ c.find.result (λ t. Carried bs c.args.page t → ⊥) (Carried bs c.args.page) c.find.ensures.ran
+    let bs = c.args.self.now.bytes.now in
+    some_free bs 0 c.find.result
+    (first_from_Range _ _ _ c.find.result (λ t. Carried bs 0 t → ⊥) (Carried bs 0) c.find.ensures.ran
     (λ x q k. search (rules, tests)) (λ x q k. search (rules, tests)))
 
 pub returns : goal.returns
 returns c =
-    let bs = c.args.bytes.now in
-    free_is bs c.args.page c.unwrap.result
-    (subst (Found bs c.args.page) c.unwrap.ensures
-    (first_from_Range _ _ _ c.find.result (λ t. Carried bs c.args.page t → ⊥) (Carried bs c.args.page) c.find.ensures.ran
+    let bs = c.args.self.now.bytes.now in
+    free_is bs 0 c.unwrap.result
+    (subst (Found bs 0) c.unwrap.ensures
+    (first_from_Range _ _ _ c.find.result (λ t. Carried bs 0 t → ⊥) (Carried bs 0) c.find.ensures.ran
     (λ x q k. search (rules, tests)) (λ x q k. search (rules, tests))))
