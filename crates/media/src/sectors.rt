@@ -1,4 +1,5 @@
-ghost use Rattle.std.specs.Prelude.{◌≡◌, ◌+◌, ◌<◌, ◌≤◌, length, Decides};
+ghost use Rattle.std.specs.Prelude.{◌≡◌, ◌+◌, ◌*◌, ◌<◌, ◌≤◌, length, Decides};
+ghost use Rattle.medium.specs.Meaning.{Bytes};
 ghost use Rattle.medium.specs.Rules.{readable, plainly, filled};
 ghost use Rattle.media.specs.Card.{card_count, card_page, tick as tick_at, content as content_at, Whole, Carried, sectors_of};
 ghost use Rattle.media.specs.Card.{next_tick, NextTick, put_at, put_sectors};
@@ -93,7 +94,24 @@ fn put_at(bytes: &mut [u8], at: usize, part: &[u8], mark: u8)
     bytes[at + CONTENT] = mark;
 }
 
-// Writes the first sectors of a page, in rising order, with a tick that none of its sectors carried.
+// Writes the next sector of a page whose first sectors were written so.
+fn put_next(bytes: &mut [u8], page: u16, sector: usize, from: &[u8], mark: u8)
+    requires within { page * 272 + 272 ≤ length bytes.old }
+    requires len { length from.now ≡ 256 }
+    requires sector { sector < 16 }
+    ensures { (before : Bytes) → bytes.old ≡ put_sectors before page mark from.now sector
+        → bytes.new ≡ put_sectors before page mark from.now (sector + 1) }
+{
+    let part = &from[sector * CONTENT..sector * CONTENT + CONTENT];
+    put_at(
+        bytes,
+        usize::from(page) * STRIDE + sector * SECTOR,
+        part,
+        mark,
+    );
+}
+
+// Writes the first sectors of a page, with a tick that none of its sectors carried.
 pub(crate) fn put(bytes: &mut [u8], page: u16, from: &[u8], sectors: usize)
     requires within { page < card_count bytes.old }
     requires len { length from.now ≡ 256 }
@@ -101,10 +119,8 @@ pub(crate) fn put(bytes: &mut [u8], page: u16, from: &[u8], sectors: usize)
     ensures { bytes.new ≡ put_sectors bytes.old page (next_tick bytes.old page)
         from.now sectors }
 {
-    let start = usize::from(page) * STRIDE;
     let mark = Sectors::of(bytes, page).free_tick();
     for sector in 0..sectors {
-        let part = &from[sector * CONTENT..sector * CONTENT + CONTENT];
-        put_at(bytes, start + sector * SECTOR, part, mark);
+        put_next(bytes, page, sector, from, mark);
     }
 }

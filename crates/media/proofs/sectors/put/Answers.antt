@@ -1,4 +1,4 @@
-use Rattle.std.proofs.Common.{◌≡◌, ◌+◌, ◌-◌, ◌*◌, add-one, refl, ap, ◌∙◌, subst, arith}
+use Rattle.std.proofs.Common.{◌≡◌, refl, ap, ◌∙◌, subst, arith}
 use Rattle.medium.specs.Meaning.{Bytes}
 use Rattle.media.specs.Card.{NextTick, put_sectors}
 use Rattle.media.specs.Laws.Alone.{next_alone}
@@ -7,13 +7,6 @@ use Rattle.media.proofs.sectors.put.Goals as goal
 pub loop-sector-init : goal.loop-sector-init
 unfolding put_sectors
 loop-sector-init c = refl
-
-pub loop-sector-preserved : goal.loop-sector-preserved
-unfolding put_sectors
-loop-sector-preserved c =
-    let n = c.loop-sector.sector in
-    let e : n * 16 + 16 - n * 16 ≡ 16 = omega arith in
-    rw add-one (c.put_at.ensures ∙ rw (c.loop-sector.invariant, c.from-start.ensures, e) refl)
 
 pub returns : goal.returns
 returns c =
