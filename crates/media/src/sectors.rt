@@ -2,7 +2,7 @@ ghost use Rattle.std.specs.Prelude.{◌≡◌, ◌+◌, ◌*◌, ◌<◌, ◌≤
 ghost use Rattle.medium.specs.Meaning.{Bytes};
 ghost use Rattle.medium.specs.Rules.{readable, plainly, filled};
 ghost use Rattle.media.specs.Card.{card_count, card_page, tick as tick_at, content as content_at, Whole, Carried, sectors_of};
-ghost use Rattle.media.specs.Card.{next_tick, NextTick, put_at, put_sectors};
+ghost use Rattle.media.specs.Card.{next_tick, NextTick, FirstFree, put_at, put_sectors};
 
 use crate::bytes::overwrite;
 use medium::Cause;
@@ -77,11 +77,19 @@ impl<'b> Sectors<'b> {
         (0..SECTORS).any(|sector| self.tick(sector) == mark)
     }
 
+    // The first tick from a tick on, below the highest, that no sector carries.
+    fn free_from(&self, from: u8) -> Option<u8>
+        ensures { FirstFree self.now.bytes.now 0 from result }
+    {
+        (from..u8::MAX).find(|mark| !self.carries(*mark))
+    }
+
     // The smallest tick that no sector carries: sixteen sectors leave one free.
+    #[tactic(auto, using(crate::specs::Laws::Ticks::some_free, crate::specs::Laws::Ticks::first_is_next))]
     fn free_tick(&self) -> u8
         ensures { NextTick self.now.bytes.now 0 result }
     {
-        (1..u8::MAX).find(|mark| !self.carries(*mark)).unwrap()
+        self.free_from(1).unwrap()
     }
 }
 

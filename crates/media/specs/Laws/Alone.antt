@@ -1,5 +1,5 @@
 -- The bytes of a page alone say at 0 what all the bytes say at the page.
-use Rattle.std.proofs.Common.{◌≡◌, ℕ, ◌+◌, ◌*◌, ◌/◌, ◌%◌, ◌<◌, get_or, take, drop, sym, ap, ◌∙◌, arith}
+use Rattle.std.proofs.Common.{◌≡◌, ℕ, ◌+◌, ◌*◌, ◌/◌, ◌%◌, ◌<◌, get_or, take, drop, sym, ap, ◌∙◌, subst, arith}
 use Rattle.std.proofs.lemmas.List.{get_or-take, get_or-drop}
 use Rattle.medium.specs.Meaning.{Bytes}
 use Rattle.media.specs.Card.{sectors_of, tick, content, card_page, Carried, NextTick, next_tick}
@@ -18,16 +18,18 @@ module _ (bs : Bytes) (i : ℕ) where
   content_alone k h =
       byte_alone (0 * 272 + k / 16 * 17 + k % 16) (i * 272 + k / 16 * 17 + k % 16) (omega arith) (omega arith)
 
-  pub page_alone : card_page (sectors_of bs i) 0 ≡ card_page bs i
-  page_alone = page_by bs (sectors_of bs i) i 0 tick_alone content_alone
+  module _ (xs : Bytes) (alone : xs ≡ sectors_of bs i) where
+    pub page_alone : card_page xs 0 ≡ card_page bs i
+    page_alone = ap (λ ys. card_page ys 0) alone ∙ page_by bs (sectors_of bs i) i 0 tick_alone content_alone
 
-  -- the tick that is next in the page alone
-  pub next_alone : (t : ℕ) → NextTick (sectors_of bs i) 0 t → t ≡ next_tick bs i
-  next_alone t h =
-      next_tick_only bs i t
-      (record {
-        low = h.low;
-        high = h.high;
-        free = λ c. h.free (c.0, c.1, tick_alone c.0 c.1 ∙ c.2);
-        smallest = λ u lo lt. let c = h.smallest u lo lt in (c.0, c.1, sym (tick_alone c.0 c.1) ∙ c.2);
-      })
+    -- the tick that is next in the page alone
+    pub next_alone : (t : ℕ) → NextTick xs 0 t → t ≡ next_tick bs i
+    next_alone t h =
+        let next = subst (λ ys. NextTick ys 0 t) alone h in
+        next_tick_only bs i t
+        (record {
+          low = next.low;
+          high = next.high;
+          free = λ c. next.free (c.0, c.1, tick_alone c.0 c.1 ∙ c.2);
+          smallest = λ u lo lt. let c = next.smallest u lo lt in (c.0, c.1, sym (tick_alone c.0 c.1) ∙ c.2);
+        })
