@@ -1,11 +1,15 @@
 -- A card's bytes: 272 a page, 16 sectors of 16 content bytes and a tick.
-use Rattle.std.specs.Prelude.{◌≡◌, ℕ, zero, suc, ◌+◌, ◌*◌, ◌/◌, ◌%◌, ◌<◌, ◌≤◌, min, Bool, true, false, cond, not, ◌&&◌, ◌||◌, map, length, take, drop, Some, None, ◌==◌, ◌≢◌, slice_index, slice_set}
+use Rattle.std.specs.Prelude.{◌≡◌, ℕ, zero, suc, ◌+◌, ◌*◌, ◌/◌, ◌%◌, ◌<◌, ◌≤◌, min, Bool, true, false, cond, not, ◌&&◌, ◌||◌, map, length, take, drop, Some, None, Option, MatchOption, ◌==◌, ◌≢◌, slice_index, slice_set}
 use Rattle.std.specs.List.{range_with_len}
 use Rattle.medium.specs.Meaning.{Bytes, Page}
 use Rattle.media.specs.Lent.{Coding, over}
 
 abbrev pub card_count : Bytes → ℕ
 card_count bs = min (length bs / 272) 65535
+
+-- The bytes of page i alone: in these it is page 0.
+abbrev pub sectors_of : Bytes → ℕ → Bytes
+sectors_of bs i = take 272 (drop (i * 272) bs)
 
 -- The tick of sector s of page i, and byte k of its content.
 abbrev pub tick : Bytes → ℕ → ℕ → ℕ
@@ -52,6 +56,11 @@ pub record NextTick (bs : Bytes) (i t : ℕ) : Type 0 where
   pub high : t ≤ 255
   pub free : Carried bs i t → ⊥
   pub smallest : (u : ℕ) → 1 ≤ u → u < t → Carried bs i u
+
+-- What a search from a tick on finds: the first that no sector carries, or none below 255.
+abbrev pub FirstFree : Bytes → ℕ → ℕ → Option ℕ → Type 0
+FirstFree bs i from r = MatchOption r ((t : ℕ) → from ≤ t → t < 255 → Carried bs i t)
+    (λ t. (from ≤ t) × (t < 255) × (Carried bs i t → ⊥) × ((u : ℕ) → from ≤ u → u < t → Carried bs i u))
 
 -- A sector written at its place: 16 bytes of content, then the tick.
 abbrev pub put_at : Bytes → ℕ → Bytes → ℕ → Bytes

@@ -1,4 +1,5 @@
 -- Both lays show what they write. The files below have the lemmas of that: nothing there needs belief.
+pub mod Alone
 pub mod Cards
 pub mod Counted
 pub mod Overwrites

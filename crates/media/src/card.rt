@@ -4,7 +4,7 @@ ghost use Rattle.media.specs.Laws.Cards.{card_shows};
 use crate::bytes::pages_in;
 use crate::lay::Lay;
 use crate::lent::Lent;
-use crate::sectors::{SECTORS, STRIDE, copy_out, put};
+use crate::sectors::{SECTORS, STRIDE, Sectors, put};
 use medium::Cause;
 
 // 272 bytes a page: 16 sectors of 16 content bytes and a tick.
@@ -24,7 +24,7 @@ impl Lay for Sectored {
     }
 
     fn copy_out(bytes: &[u8], page: u16, into: &mut [u8]) -> Result<(), Cause> {
-        copy_out(bytes, page, into)
+        Sectors::of(bytes, page).copy_out(into)
     }
 
     fn put(bytes: &mut [u8], page: u16, from: &[u8]) {

@@ -12,31 +12,35 @@ use Rattle.media.specs.Laws.Pages.{pages_set}
 use Rattle.media.specs.Laws.Putting.{SectorsPut, sectors_put}
 use Rattle.media.specs.Laws.Ticks.{whole_decides, next_tick_is}
 
-level_same : (xs ys : Bytes) (i t n : ℕ) → ((s : ℕ) → s < n → tick ys i s ≡ tick xs i s)
-    → level ys i t n ≡ level xs i t n
+level_same : (xs ys : Bytes) (i j t n : ℕ) → ((s : ℕ) → s < n → tick ys j s ≡ tick xs i s)
+    → level ys j t n ≡ level xs i t n
 unfolding level
-level_same xs ys i t zero eq = refl
-level_same xs ys i t (suc n) eq =
-    ap (λ x. eqb x t && level ys i t n) (eq n (omega arith))
-    ∙ ap (λ b. eqb (tick xs i n) t && b) (level_same xs ys i t n (λ s h. eq s (omega arith)))
+level_same xs ys i j t zero eq = refl
+level_same xs ys i j t (suc n) eq =
+    ap (λ x. eqb x t && level ys j t n) (eq n (omega arith))
+    ∙ ap (λ b. eqb (tick xs i n) t && b) (level_same xs ys i j t n (λ s h. eq s (omega arith)))
 
-whole_same : (xs ys : Bytes) (i : ℕ) → ((s : ℕ) → s < 16 → tick ys i s ≡ tick xs i s) → whole ys i ≡ whole xs i
+whole_same : (xs ys : Bytes) (i j : ℕ) → ((s : ℕ) → s < 16 → tick ys j s ≡ tick xs i s) → whole ys j ≡ whole xs i
 unfolding whole
-whole_same xs ys i eq =
-    ap (λ t. not (eqb t 0) && level ys i t 16) (eq 0 (omega arith))
-    ∙ ap (λ b. not (eqb (tick xs i 0) 0) && b) (level_same xs ys i (tick xs i 0) 16 eq)
+whole_same xs ys i j eq =
+    ap (λ t. not (eqb t 0) && level ys j t 16) (eq 0 (omega arith))
+    ∙ ap (λ b. not (eqb (tick xs i 0) 0) && b) (level_same xs ys i j (tick xs i 0) 16 eq)
+
+-- A page is its ticks and its content.
+pub page_by : (xs ys : Bytes) (i j : ℕ) → ((s : ℕ) → s < 16 → tick ys j s ≡ tick xs i s)
+    → ((k : ℕ) → k < 256 → content ys j k ≡ content xs i k) → card_page ys j ≡ card_page xs i
+unfolding card_page
+page_by xs ys i j ticks contents =
+    let m = counted_same (content xs i) (content ys j) 256 contents in
+    ap (λ b. cond b (Some (map (content ys j) (range_with_len 0 256))) None) (whole_same xs ys i j ticks)
+    ∙ ap (λ c. cond (whole xs i) (Some c) None) m
 
 -- A page is its 272 bytes.
 page_same : (xs ys : Bytes) (i : ℕ) → ((q : ℕ) → i * 272 ≤ q → q < i * 272 + 272 → get_or ys q 0 ≡ get_or xs q 0)
     → card_page ys i ≡ card_page xs i
-unfolding card_page
 page_same xs ys i eq =
-    let w = whole_same xs ys i (λ s h. eq (i * 272 + s * 17 + 16) (omega arith) (omega arith)) in
-    let m : map (content ys i) (range_with_len 0 256) ≡ map (content xs i) (range_with_len 0 256) =
-    counted_same (content xs i) (content ys i) 256
-    (λ k h. eq (i * 272 + k / 16 * 17 + k % 16) (omega arith) (omega arith)) in
-    ap (λ b. cond b (Some (map (content ys i) (range_with_len 0 256))) None) w
-    ∙ ap (λ c. cond (whole xs i) (Some c) None) m
+    page_by xs ys i i (λ s h. eq (i * 272 + s * 17 + 16) (omega arith) (omega arith))
+    (λ k h. eq (i * 272 + k / 16 * 17 + k % 16) (omega arith) (omega arith))
 
 -- What a whole page is, and one that is not.
 pub page_whole : (bs : Bytes) (i : ℕ) → Whole bs i → card_page bs i ≡ Some (map (content bs i) (range_with_len 0 256))

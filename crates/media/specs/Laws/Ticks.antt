@@ -1,9 +1,10 @@
 -- The ticks of a card's page: whether it is whole, and which tick comes next.
-use Rattle.std.proofs.Common.{◌≡◌, ℕ, zero, suc, ◌+◌, ◌<◌, ◌≤◌, Bool, true, false, cond, not, eqb, Decides, sym, refl, ◌∙◌, ⊎_elim, arith}
+use Rattle.std.proofs.Common.{◌≡◌, ℕ, zero, suc, ◌+◌, ◌<◌, ◌≤◌, Bool, true, false, cond, not, eqb, Decides, Some, None, Option, sym, refl, ◌∙◌, subst, ⊎_elim, arith, rules}
+use Rattle.std.specs.Option.{IsSome}
 use Rattle.std.proofs.lemmas.Bool.{cases_eq, cases_lt}
 use Rattle.std.proofs.lemmas.Bool.Decides.{Decides-below_and, Decides-below_or, Decides-eqb, Decides-and, Decides-not, not_from_Decides}
 use Rattle.medium.specs.Meaning.{Bytes}
-use Rattle.media.specs.Card.{tick, level, Whole, whole, Carried, carries, free_from, next_tick, NextTick}
+use Rattle.media.specs.Card.{tick, level, Whole, whole, Carried, carries, free_from, next_tick, NextTick, FirstFree}
 use Rattle.media.specs.Laws.Pigeons.{at_most}
 
 module _ (bs : Bytes) (i : ℕ) where
@@ -70,3 +71,13 @@ module _ (bs : Bytes) (i : ℕ) where
       (λ ne. absurd (k.free (h.smallest n k.low (omega arith))))
       (cases_eq t n))
       (cases_lt t n)
+
+  -- a search from 1 on finds it
+  pub some_free : (r : Option ℕ) → FirstFree bs i 1 r → IsSome r
+  some_free None all = absurd (not_all_carried 255 (omega arith) all)
+  some_free (Some t) f = search rules
+
+  pub first_is_next : (r : Option ℕ) (t : ℕ) → FirstFree bs i 1 r → r ≡ Some t → NextTick bs i t
+  first_is_next r t f e =
+      let h = subst (FirstFree bs i 1) e f in
+      record { low = h.0; high = omega (arith, h.1); free = h.2; smallest = h.3 }

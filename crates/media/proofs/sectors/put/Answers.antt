@@ -1,6 +1,6 @@
 use Rattle.std.proofs.Common.{◌≡◌, refl, ap, ◌∙◌, arith}
 use Rattle.media.specs.Card.{put_sectors}
-use Rattle.media.specs.Laws.Ticks.{next_tick_only}
+use Rattle.media.specs.Laws.Alone.{next_alone}
 use Rattle.media.proofs.sectors.put.Goals as goal
 
 pub loop-sector-init : goal.loop-sector-init
@@ -14,4 +14,4 @@ returns c =
     c.loop-sector.invariant
     ∙ ap (λ n. put_sectors bs c.args.page c.free_tick-mark.result c.args.from.now n) end
     ∙ ap (λ t. put_sectors bs c.args.page t c.args.from.now c.args.sectors)
-    (next_tick_only bs c.args.page c.free_tick-mark.result c.free_tick-mark.ensures)
+    (next_alone bs c.args.page c.of.result.bytes.now c.of.ensures c.free_tick-mark.result c.free_tick-mark.ensures)

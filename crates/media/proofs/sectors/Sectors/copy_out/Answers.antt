@@ -4,11 +4,11 @@ use Rattle.std.proofs.lemmas.Bool.Decides.{not_from_Decides}
 use Rattle.medium.specs.Rules.{readable, plainly, filled}
 use Rattle.media.specs.Card.{content}
 use Rattle.media.specs.Laws.Cards.{page_none, page_whole}
-use Rattle.media.proofs.sectors.copy_out.Goals as goal
+use Rattle.media.proofs.sectors.Sectors.copy_out.Goals as goal
 
-pub returns-then-not-whole : goal.returns-then-not-whole
-returns-then-not-whole c =
-    let e = page_none c.args.bytes.now c.args.page (not_from_Decides _ c.if-not-whole.ensures refl) in
+pub returns-then-not-is_whole : goal.returns-then-not-is_whole
+returns-then-not-is_whole c =
+    let e = page_none c.args.self.now.bytes.now 0 (not_from_Decides _ c.if-not-is_whole.ensures refl) in
     record {
       answer = sym (ap (λ p. plainly (readable p)) e);
       buffer = sym (ap (λ p. filled c.args.into.now (readable p)) e);
@@ -16,10 +16,10 @@ returns-then-not-whole c =
 
 pub returns : goal.returns
 returns c =
-    let e = page_whole c.args.bytes.now c.args.page (c.if-not-whole.ensures.0 refl) in
+    let e = page_whole c.args.self.now.bytes.now 0 (c.if-not-is_whole.ensures.0 refl) in
     let len : length c.loop-at.into ≡ 256 = omega arith in
     let all =
-    fill_by_all (content c.args.bytes.now c.args.page) c.loop-at.into 256 0 len
+    fill_by_all (content c.args.self.now.bytes.now 0) c.loop-at.into 256 0 len
     (λ k h. let l : k < c.loop-at.at = omega arith in c.loop-at.invariant k l) in
     record {
       answer = sym (ap (λ p. plainly (readable p)) e);
