@@ -107,7 +107,8 @@ def repeated_facts():
 
 def answers():
     count = defaultdict(int)
-    for path in sorted(glob.glob("crates/*/proofs/**/*.antt", recursive=True)):
+    proofs = glob.glob("crates/*/proofs/**/*.antt", recursive=True) + glob.glob("crates/*/specs/Laws/*.antt")
+    for path in sorted(proofs):
         crate = path.split("/")[1]
         text = open(path, encoding="utf8").read()
         count[crate, "lines"] += text.count("\n")
@@ -152,7 +153,7 @@ def main():
     if shown("8"):
         count = answers()
         crates = sorted({c for c, _ in count})
-        print("8 lines of proofs/: %d; answers: %d" % (sum(count[c, "lines"] for c in crates), sum(count[c, "answers"] for c in crates)))
+        print("8 lines of proofs/ and specs/Laws/: %d; answers: %d" % (sum(count[c, "lines"] for c in crates), sum(count[c, "answers"] for c in crates)))
         if listed:
             for crate in crates:
                 print("    %s: %d lines, %d answers" % (crate, count[crate, "lines"], count[crate, "answers"]))
