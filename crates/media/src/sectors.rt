@@ -15,7 +15,7 @@ const SECTOR: usize = 17;
 
 const CONTENT: usize = 16;
 
-// The sectors of one page.
+// The sectors of one page, by its bytes alone: in these it is page 0.
 #[derive(Clone, Copy)]
 pub(crate) struct Sectors<'b> {
     bytes: &'b [u8; STRIDE],

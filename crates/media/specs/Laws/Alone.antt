@@ -1,8 +1,8 @@
 -- The bytes of a page alone say at 0 what all the bytes say at the page.
-use Rattle.std.proofs.Common.{◌≡◌, ℕ, ◌+◌, ◌*◌, ◌/◌, ◌%◌, ◌<◌, get_or, take, drop, sym, ap, ◌∙◌, subst, arith}
+use Rattle.std.proofs.Common.{◌≡◌, ℕ, ◌+◌, ◌*◌, ◌/◌, ◌%◌, ◌<◌, get_or, drop, sym, ap, ◌∙◌, subst, arith}
 use Rattle.std.proofs.lemmas.List.{get_or-take, get_or-drop}
 use Rattle.medium.specs.Meaning.{Bytes}
-use Rattle.media.specs.Card.{sectors_of, tick, content, card_page, Carried, NextTick, next_tick}
+use Rattle.media.specs.Card.{sectors_of, tick, content, card_page, NextTick, next_tick}
 use Rattle.media.specs.Laws.Cards.{page_by}
 use Rattle.media.specs.Laws.Ticks.{next_tick_only}
 
