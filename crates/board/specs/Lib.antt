@@ -1,3 +1,4 @@
 pub mod Lines
+pub mod Parts
 pub mod Texts
 pub mod Laws
