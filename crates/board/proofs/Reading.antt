@@ -1,32 +1,18 @@
 -- Reading left to right: numbers, fields and lines.
-use Rattle.std.proofs.Common.{not, position, unwrap_or, ◌≡◌, ℕ, suc, ◌+◌, ◌-◌, ◌<◌, Bool, true, false, cond, eqb, List, [], ◌∷◌, ◌++◌, append_assoc, get_or, length, take, drop, Some, None, Ok, Err, Option, Result, sym, refl, ap, ◌∙◌, ap₂, arith, rules}
+use Rattle.std.proofs.Common.{not, position, unwrap_or, ◌≡◌, ℕ, suc, ◌+◌, ◌-◌, ◌<◌, Bool, true, false, cond, eqb, List, [], ◌∷◌, ◌++◌, append_assoc, length, take, drop, Some, None, Option, sym, refl, ap, ◌∙◌, ap₂, arith, rules}
 use Rattle.std.proofs.Math.Numerals.{one-add, add-one}
-use Rattle.std.proofs.lemmas.Fmt.{IsAscii-from_digits}
-use Rattle.std.proofs.lemmas.List.{at_drop_more, drop-drop, length-drop}
-use Rattle.std.proofs.lemmas.List.Sums.{prefix_len-le-length}
-use Rattle.std.proofs.lemmas.Str.{IsUtf8-from_ascii}
+use Rattle.std.proofs.lemmas.List.{drop-drop, length-drop}
+use Rattle.std.proofs.lemmas.List.Quantifiers.{position-Some}
+use Rattle.std.proofs.lemmas.List.Splits.{slice_split_first, slice_split_none, length-slice_split}
+use Rattle.std.proofs.lemmas.List.Sums.{prefix_len-le-length, fails_before_first}
 use Rattle.std.proofs.lemmas.Bool.Decides.{nat_tests}
-use Rattle.std.proofs.lemmas.Str.Parse.{IsNumeralModel, numerals_by_fold, parse_digits}
-use Rattle.std.specs.Result.{result_ok}
-use Rattle.std.specs.Str.Parse.{ParsesUnsigned}
+use Rattle.std.proofs.lemmas.Str.Parse.{IsNumeralModel, numerals_by_fold}
 use Rattle.std.specs.List.{between, onto_first, position_or_len, before_first, after_first}
-use Rattle.std.specs.Str.{IsUtf8}
-use Rattle.board.specs.Lines.{lines_of, all_digits, value, number_of, followed, all_numbers, command_with}
+use Rattle.board.specs.Lines.{lines_of, fields_of, all_digits, value, number_of, followed, all_numbers, command_with}
 
--- The digits of a line are those of `parse`.
+-- The digits of a line are the kit's.
 pub own : IsNumeralModel (λ ds. all_digits ds ≡ true) (value 0)
 own = numerals_by_fold _ (search rules) value (search rules)
-
-pub digits_are_text : (ds : List ℕ) → all_digits ds ≡ true → IsUtf8 ds
-digits_are_text ds e = IsUtf8-from_ascii ds (IsAscii-from_digits ds (own.to ds e))
-
--- What `parse` gives of digits.
-pub number_parsed : {E : Type 0} (ds : List ℕ) (r : Result ℕ E) → all_digits ds ≡ true → ParsesUnsigned 32 10 ds r
-    → result_ok r ≡ number_of ds
-number_parsed {E} ds (Ok n) e h =
-    let fits = parse_digits own {E = E} 32 ds (Ok n) h e in grind (arith, nat_tests)
-number_parsed {E} ds (Err x) e h =
-    let fits = parse_digits own {E = E} 32 ds (Err x) h e in grind (arith, nat_tests)
 
 -- The first place where a test passes, or the end.
 pub place : (p : ℕ → Bool) (xs : List ℕ) → unwrap_or (position p xs) (length xs) ≡ position_or_len p xs
@@ -71,12 +57,22 @@ abbrev pub before_all : List ℕ → Option (List ℕ) → Option (List ℕ)
 before_all ns None = None
 before_all ns (Some more) = Some (ns ++ more)
 
--- The next field, and those behind it.
-pub next_field : (fs : List (List ℕ)) (k : ℕ) (f : List ℕ) → (k < length fs) × (f ≡ get_or fs k f)
-    → all_numbers (drop k fs) ≡ followed (number_of f) (all_numbers (drop (k + 1) fs))
-next_field fs k f h =
-    at_drop_more all_numbers fs k f h.0
-    ∙ ap (λ g. followed (number_of g) (all_numbers (drop (k + 1) fs))) (sym h.1)
+-- Where a space stands, what is before it and behind it; or no space.
+abbrev pub spaces : ℕ → Bool
+spaces c = eqb c 32
+
+pub field_cut : (xs : List ℕ) (i : ℕ) → position spaces xs ≡ Some i
+    → fields_of xs ≡ take i xs ∷ fields_of (drop (i + 1) xs)
+field_cut xs i e =
+    let at : position_or_len spaces xs ≡ i = sym (place spaces xs) ∙ ap (λ o. unwrap_or o (length xs)) e in
+    let within = (position-Some spaces xs i 0 e).0 in
+    slice_split_first spaces xs 0 (omega (arith, at, within))
+    ∙ ap (λ n. take n xs ∷ fields_of (drop (n + 1) xs)) at
+
+pub field_last : (xs : List ℕ) → position spaces xs ≡ None → fields_of xs ≡ xs ∷ []
+field_last xs e =
+    let at : length xs ≡ position_or_len spaces xs = sym (ap (λ o. unwrap_or o (length xs)) e) ∙ place spaces xs in
+    slice_split_none spaces xs (λ k d lt. fails_before_first spaces xs k d (omega (arith, at, lt)))
 
 pub one_more : (ns : List ℕ) (n : ℕ) (o : Option (List ℕ))
     → before_all ns (followed (Some n) o) ≡ before_all (ns ++ (n ∷ [])) o
@@ -92,3 +88,15 @@ four_none letter n (a ∷ b ∷ c ∷ d ∷ ds) (Some more) h = absurd (omega ar
 four_none letter n [] (Some more) h = absurd (omega arith)
 four_none letter n (a ∷ []) (Some more) h = absurd (omega arith)
 four_none letter n (a ∷ b ∷ []) (Some more) h = absurd (omega arith)
+
+pub full_none : (letter : ℕ) (ns xs : List ℕ) → length ns ≡ 3
+    → command_with letter (before_all ns (all_numbers (fields_of xs))) ≡ None
+full_none letter ns xs h = go (fields_of xs) (omega (arith, length-slice_split spaces xs))
+  where
+    with_first : (o : Option ℕ) (more : Option (List ℕ)) → command_with letter (before_all ns (followed o more)) ≡ None
+    with_first None more = refl
+    with_first (Some n) more = four_none letter n ns more h
+
+    go : (fs : List (List ℕ)) → 0 < length fs → command_with letter (before_all ns (all_numbers fs)) ≡ None
+    go [] l = absurd (omega arith)
+    go (f ∷ fs) l = with_first (number_of f) (all_numbers fs)

@@ -1,5 +1,6 @@
-ghost use Rattle.std.specs.Prelude.{◌≡◌, ℕ, Some, None, MatchOption};
+ghost use Rattle.std.specs.Prelude.{◌≡◌, ℕ, ◌∷◌, Some, None, MatchOption, option_map};
 ghost use Rattle.board.specs.Lines.{fields_of, all_numbers, numbers_of, command_by, command_with, command_of};
+ghost use Rattle.board.specs.Parts.{fields_left};
 ghost use Rattle.board.specs.Texts.{letter_of, letter_text};
 
 use crate::number::number;
@@ -65,8 +66,11 @@ impl Command {
     }
 }
 
-// The numbers of a line: no command has more than three.
-type Numbers = ArrayVec<u32, 3>;
+// No command has more than three numbers.
+const MOST: usize = 3;
+
+// The numbers of a line.
+type Numbers = ArrayVec<u32, MOST>;
 
 // The numbers behind a letter: none, or each after one space.
 fn numbers_of(rest: &[u8]) -> Option<Numbers>
@@ -80,14 +84,31 @@ fn numbers_of(rest: &[u8]) -> Option<Numbers>
     }
 }
 
-// The numbers between the spaces, if they are well-formed and no more than three.
+// The first field, and those behind its space, if it has one.
+fn cut(fields: &[u8]) -> (&[u8], Option<&[u8]>)
+    ensures { fields_of fields.now ≡ result.0.now ∷ fields_left (option_map (λ more. more.now) result.1) }
+{
+    match fields.iter().position(|byte| *byte == b' ') {
+        Some(space) => (&fields[..space], Some(&fields[space + 1..])),
+        None => (fields, None),
+    }
+}
+
+// The numbers between the spaces, if they are well-formed and no more than three. What stands behind a third space is
+// not looked at.
 fn all_numbers(fields: &[u8]) -> Option<Numbers>
     ensures { MatchOption result ((letter : ℕ) → command_with letter (all_numbers (fields_of fields.now)) ≡ None)
         (λ n. all_numbers (fields_of fields.now) ≡ Some n.items) }
 {
     let mut numbers = ArrayVec::new();
-    for field in fields.split(|byte| *byte == b' ') {
-        numbers.try_push(number(field)?).ok()?;
+    let mut left = Some(fields);
+    while let Some(rest) = left {
+        if numbers.is_full() {
+            return None;
+        }
+        let (field, more) = cut(rest);
+        numbers.push(number(field)?);
+        left = more;
     }
     Some(numbers)
 }
