@@ -1,10 +1,16 @@
 -- The fifteen entries of a segment, one after another.
-use Rattle.std.proofs.Common.{◌≡◌, ℕ, suc, ◌+◌, ◌-◌, ◌*◌, ◌<◌, Bool, true, false, cond, ◌&&◌, eqb, length, get_or, List, [], ◌∷◌, ◌++◌, Some, None, Option, refl, ap, ◌∙◌, ap₂, arith}
+use Rattle.std.proofs.Common.{◌≡◌, ℕ, suc, ◌+◌, ◌-◌, ◌*◌, ◌<◌, Bool, true, false, cond, ◌&&◌, eqb, List, [], ◌∷◌, ◌++◌, Some, None, Option, sym, refl, ap, ◌∙◌, ap₂, arith}
+use Rattle.std.proofs.lemmas.List.{append-nil, append_assoc}
 use Rattle.medium.specs.Meaning.{Bytes}
 use Rattle.rules.specs.declared.trailer.Trailer.{Trailer}
-use Rattle.std.specs.List.{flat_map}
 use Rattle.rules.specs.Format.{encode, encode_all, fields, is_proper, described, pushed}
 use Rattle.format.specs.Segments.{entry_at, entries_left}
+
+-- Written: one more.
+pub all_more : (ts : List Trailer) (t : Trailer) → encode_all (ts ++ (t ∷ [])) ≡ encode_all ts ++ encode t
+all_more [] t = append-nil (encode t)
+all_more (s ∷ ts) t =
+    ap (λ bs. encode s ++ bs) (all_more ts t) ∙ sym (append_assoc (encode s) (encode_all ts) (encode t))
 
 -- Read: what was read before, and what is left.
 abbrev pub before : List Trailer → Option (List Trailer) → Option (List Trailer)
@@ -50,12 +56,3 @@ left_more p bs q i lt =
 pub left_none : (p : ℕ) (bs : Bytes) (q : ℕ) → entries_left p bs q 15 ≡ Some []
 unfolding entries_left
 left_none p bs q = refl
-
--- Written: the bytes of one after another.
-pub joined : (ts : List Trailer) (rows : List Bytes) (t : Trailer) → length rows ≡ length ts
-    → ((i : ℕ) → i < length ts → get_or rows i [] ≡ encode (get_or ts i t)) → flat_map (λ row. row) rows ≡ encode_all ts
-joined [] [] t long each = refl
-joined [] (row ∷ rows) t long each = absurd (omega arith)
-joined (u ∷ ts) [] t long each = absurd (omega arith)
-joined (u ∷ ts) (row ∷ rows) t long each =
-    ap₂ ◌++◌ (each 0 (omega arith)) (joined ts rows t (omega arith) (λ i lt. each (suc i) (omega arith)))

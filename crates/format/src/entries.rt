@@ -1,11 +1,29 @@
-ghost use Rattle.std.specs.Prelude.{◌≡◌, ◌<◌, ◌≤◌};
+ghost use Rattle.std.specs.Prelude.{◌≡◌, ◌+◌, ◌*◌, ◌<◌, ◌≤◌, ◌++◌, take};
+ghost use Rattle.rules.specs.Format.{encode, encode_all};
 ghost use Rattle.format.specs.Segments.{entry_at, entries_left};
 
 use crate::bytes::chunk;
 use crate::page::BODY;
 use crate::segment::DESCRIBED;
-use crate::trailer::{TRAILER, trailer_in};
+use crate::trailer::{TRAILER, bytes_of, trailer_in};
 use rules::trailer::{BLANK, Trailer};
+
+// Writes an entry behind those before it.
+fn put_entry(into: &mut [u8; BODY], i: usize, entry: &Trailer)
+    requires { i < 15 }
+    ensures { take (16 * (i + 1)) into.new ≡ take (16 * i) into.old ++ encode entry.now }
+{
+    into[TRAILER * i..TRAILER * (i + 1)].copy_from_slice(&bytes_of(*entry));
+}
+
+// Writes the fifteen entries.
+pub(crate) fn put_entries(into: &mut [u8; BODY], entries: &[Trailer; DESCRIBED])
+    ensures { into.new ≡ encode_all entries.now }
+{
+    for (i, entry) in entries.iter().enumerate() {
+        put_entry(into, i, entry);
+    }
+}
 
 // The entry at a place, if it is proper and has the number of that place.
 fn entry_at(entries: &[u8; BODY], first: u32, i: usize, pages: u16) -> Option<Trailer>

@@ -7,9 +7,8 @@ ghost use Rattle.rules.specs.Recovery.{segment_in};
 ghost use Rattle.format.specs.Segments.{said, all_said, segment_at};
 
 use crate::ending::{Ending, ending_of, first_of};
-use crate::entries::entries_in;
+use crate::entries::{entries_in, put_entries};
 use crate::page::{BODY, parts};
-use crate::trailer::bytes_of;
 use medium::PAGE;
 use rules::fault::Refusal;
 use rules::trailer::Trailer;
@@ -36,9 +35,10 @@ pub fn write_segment(into: &mut [u8], segment: &Summary) -> Result<(), Refusal>
     if into.len() != PAGE {
         return Err(Refusal::Length);
     }
-    let rows = segment.entries.map(bytes_of);
-    let (entries, ending) = into.split_at_mut(BODY);
-    entries.copy_from_slice(rows.as_flattened());
+    let Some((entries, ending)) = into.split_first_chunk_mut() else {
+        return Err(Refusal::Length);
+    };
+    put_entries(entries, &segment.entries);
     ending.copy_from_slice(&ending_of(segment.last, segment.front));
     Ok(())
 }

@@ -1,4 +1,4 @@
-ghost use Rattle.std.specs.Prelude.{◌≡◌, ◌+◌, ◌-◌, ◌/◌, ◌%◌, ◌≤◌, None, length, map, slice_index_or};
+ghost use Rattle.std.specs.Prelude.{◌≡◌, ◌+◌, ◌-◌, ◌/◌, ◌%◌, ◌≤◌, None, length, map, option_map, slice_index_or};
 ghost use Rattle.format.specs.Segments.{all_said};
 ghost use Rattle.rules.specs.Recovery.{last_of, of_group, no_entries};
 ghost use Rattle.recovery.specs.Directory.{described_in, gathered};
@@ -21,10 +21,10 @@ pub fn no_entries() -> [Option<Trailer>; SLOTS]
 
 impl Segments {
     // What the page in a place says.
-    fn at(&self, place: usize) -> Option<Summary>
-        ensures { result ≡ slice_index_or self.now.places.items place None }
+    fn at(&self, place: usize) -> Option<&Summary>
+        ensures { option_map (λ s. s.now) result ≡ slice_index_or self.now.places.items place None }
     {
-        self.places.get(place).copied().flatten()
+        self.places.get(place)?.as_ref()
     }
 
     // The trailer of a number, if the segment of its group was found.
