@@ -49,5 +49,5 @@ pub fn read_trailer(page: &[u8], pages: u16) -> Option<Trailer>
 pub fn is_like(page: &[u8], entry: &Trailer) -> bool
     ensures { result ≡ is_like page.now entry.now }
 {
-    parts(page).is_some_and(|(_, last)| *last == bytes_of(*entry))
+    parts(page).is_some_and(|(_, last)| last[..] == bytes_of(*entry)[..])
 }
