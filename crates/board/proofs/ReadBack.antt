@@ -1,16 +1,20 @@
 -- What is written is read back.
-use Rattle.std.proofs.Common.{◌≡◌, ℕ, ◌<◌, true, false, cond, ◌&&◌, eqb, leb, List, [], ◌∷◌, ◌++◌, length, Some, None, decimal, refl, ap, ◌∙◌, ap₂, arith}
+use Rattle.std.proofs.Common.{◌≡◌, ℕ, ◌<◌, true, false, cond, ◌&&◌, eqb, leb, List, [], ◌∷◌, ◌++◌, length, Some, None, decimal, refl, ap, ◌∙◌, ap₂, arith, rules}
 use Rattle.std.proofs.lemmas.Fmt.{digits_decimal, digits_value-decimal, decimal_nonempty}
 use Rattle.std.proofs.lemmas.List.Splits.{slice_split_at, slice_split_none}
 use Rattle.std.proofs.lemmas.List.Sums.{AllPass-from_list_all}
 use Rattle.std.specs.Char.{is_ascii_digit}
 use Rattle.std.specs.List.{All, onto_first}
-use Rattle.board.proofs.Reading.{own}
+use Rattle.std.proofs.lemmas.Str.Parse.{IsNumeralModel, numerals_by_fold}
 use Rattle.std.proofs.lemmas.Bool.{le-leb, ne_eqb}
 use Rattle.std.proofs.lemmas.Bool.Decides.{nat_tests}
 use Rattle.board.specs.declared.command.Command.TheVariants.{Mount, Save, Get, Checkpoint, Cycle}
 use Rattle.board.specs.Lines.{lines_of, fields_of, all_digits, value, number_of, followed, all_numbers, numbers_of, command_with}
 use Rattle.board.specs.Laws.{Small, Unfed, CommandsReadBack, LinesReadBack}
+
+-- The digits of a line are the kit's.
+own : IsNumeralModel (λ ds. all_digits ds ≡ true) (value 0)
+own = numerals_by_fold _ (search rules) value (search rules)
 
 -- A number is read back from its digits.
 number_back : (n : ℕ) → Small n → number_of (decimal n) ≡ Some n

@@ -1,18 +1,13 @@
 -- Reading left to right: numbers, fields and lines.
-use Rattle.std.proofs.Common.{not, position, unwrap_or, ◌≡◌, ℕ, suc, ◌+◌, ◌-◌, ◌<◌, Bool, true, false, cond, eqb, List, [], ◌∷◌, ◌++◌, append_assoc, length, take, drop, Some, None, Option, sym, refl, ap, ◌∙◌, ap₂, arith, rules}
+use Rattle.std.proofs.Common.{not, position, unwrap_or, ◌≡◌, ℕ, suc, ◌+◌, ◌-◌, ◌<◌, Bool, true, false, cond, eqb, List, [], ◌∷◌, ◌++◌, length, take, drop, Some, None, Option, sym, refl, ap, ◌∙◌, ap₂, arith}
 use Rattle.std.proofs.Math.Numerals.{one-add, add-one}
 use Rattle.std.proofs.lemmas.List.{drop-drop, length-drop}
 use Rattle.std.proofs.lemmas.List.Quantifiers.{position-Some}
 use Rattle.std.proofs.lemmas.List.Splits.{slice_split_first, slice_split_none, length-slice_split}
 use Rattle.std.proofs.lemmas.List.Sums.{prefix_len-le-length, fails_before_first}
 use Rattle.std.proofs.lemmas.Bool.Decides.{nat_tests}
-use Rattle.std.proofs.lemmas.Str.Parse.{IsNumeralModel, numerals_by_fold}
 use Rattle.std.specs.List.{between, onto_first, position_or_len, before_first, after_first}
-use Rattle.board.specs.Lines.{lines_of, fields_of, all_digits, value, number_of, followed, all_numbers, command_with}
-
--- The digits of a line are the kit's.
-pub own : IsNumeralModel (λ ds. all_digits ds ≡ true) (value 0)
-own = numerals_by_fold _ (search rules) value (search rules)
+use Rattle.board.specs.Lines.{lines_of, fields_of, number_of, followed, all_numbers, command_with}
 
 -- The first place where a test passes, or the end.
 pub place : (p : ℕ → Bool) (xs : List ℕ) → unwrap_or (position p xs) (length xs) ≡ position_or_len p xs
@@ -73,11 +68,6 @@ pub field_last : (xs : List ℕ) → position spaces xs ≡ None → fields_of x
 field_last xs e =
     let at : length xs ≡ position_or_len spaces xs = sym (ap (λ o. unwrap_or o (length xs)) e) ∙ place spaces xs in
     slice_split_none spaces xs (λ k d lt. fails_before_first spaces xs k d (omega (arith, at, lt)))
-
-pub one_more : (ns : List ℕ) (n : ℕ) (o : Option (List ℕ))
-    → before_all ns (followed (Some n) o) ≡ before_all (ns ++ (n ∷ [])) o
-one_more ns n None = refl
-one_more ns n (Some more) = ap Some (sym (append_assoc ns (n ∷ []) more))
 
 -- No command has more than three numbers.
 pub four_none : (letter n : ℕ) (ns : List ℕ) (o : Option (List ℕ)) → length ns ≡ 3

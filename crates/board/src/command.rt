@@ -3,6 +3,7 @@ ghost use Rattle.board.specs.Lines.{fields_of, all_numbers, numbers_of, command_
 ghost use Rattle.board.specs.Parts.{fields_left};
 ghost use Rattle.board.specs.Texts.{letter_of, letter_text};
 
+use crate::lines::place_of;
 use crate::number::number;
 use arrayvec::ArrayVec;
 use std::fmt;
@@ -66,11 +67,8 @@ impl Command {
     }
 }
 
-// No command has more than three numbers.
-const MOST: usize = 3;
-
-// The numbers of a line.
-type Numbers = ArrayVec<u32, MOST>;
+// The numbers of a line: no command has more than three.
+type Numbers = ArrayVec<u32, 3>;
 
 // The numbers behind a letter: none, or each after one space.
 fn numbers_of(rest: &[u8]) -> Option<Numbers>
@@ -88,7 +86,7 @@ fn numbers_of(rest: &[u8]) -> Option<Numbers>
 fn cut(fields: &[u8]) -> (&[u8], Option<&[u8]>)
     ensures { fields_of fields.now ≡ result.0.now ∷ fields_left (option_map (λ more. more.now) result.1) }
 {
-    match fields.iter().position(|byte| *byte == b' ') {
+    match place_of(b' ', fields) {
         Some(space) => (&fields[..space], Some(&fields[space + 1..])),
         None => (fields, None),
     }

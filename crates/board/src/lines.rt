@@ -1,6 +1,13 @@
-ghost use Rattle.std.specs.Prelude.{◌≡◌, ◌+◌, ◌<◌, ◌≤◌, ◌∷◌, length, drop};
+ghost use Rattle.std.specs.Prelude.{◌≡◌, ◌==◌, ◌+◌, ◌<◌, ◌≤◌, ◌∷◌, length, drop, position};
 ghost use Rattle.std.specs.List.{between};
 ghost use Rattle.board.specs.Lines.{lines_of};
+
+// Where the first byte of a kind stands.
+pub(crate) fn place_of(byte: u8, bytes: &[u8]) -> Option<usize>
+    ensures { result ≡ position (λ c. c == byte) bytes.now }
+{
+    bytes.iter().position(|x| *x == byte)
+}
 
 // The end of the line that begins at a place of the input: the place of its line feed, or the input's end. Past the
 // input nothing begins, and the answer is that place.
@@ -15,6 +22,6 @@ pub fn line_end(input: &[u8], from: usize) -> usize
     let Some(rest) = input.get(from..) else {
         return from;
     };
-    let feed = rest.iter().position(|byte| *byte == b'\n');
+    let feed = place_of(b'\n', rest);
     from + feed.unwrap_or(rest.len())
 }

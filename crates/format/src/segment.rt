@@ -35,9 +35,7 @@ pub fn write_segment(into: &mut [u8], segment: &Summary) -> Result<(), Refusal>
     if into.len() != PAGE {
         return Err(Refusal::Length);
     }
-    let Some((entries, ending)) = into.split_first_chunk_mut() else {
-        return Err(Refusal::Length);
-    };
+    let (entries, ending) = into.split_first_chunk_mut().unwrap();
     put_entries(entries, &segment.entries);
     ending.copy_from_slice(&ending_of(segment.last, segment.front));
     Ok(())

@@ -1,7 +1,4 @@
-use Rattle.std.proofs.Common.{◌∙◌, rules, ap, length, unwrap_or}
-use Rattle.std.proofs.lemmas.Iterator.{YieldsList-from_slice}
-use Rattle.std.proofs.lemmas.Iterator.Search.{position_from_yields_List}
-use borrow.Author.Tests.{tests}
+use Rattle.std.proofs.Common.{◌∙◌, ap, length, unwrap_or}
 use Rattle.std.proofs.lemmas.List.{take_rest}
 use Rattle.std.specs.List.{position_or_len}
 use Rattle.board.proofs.Reading.{feeds, place, line_at}
@@ -10,12 +7,9 @@ use Rattle.board.proofs.lines.line_end.Goals as goal
 pub returns-clause-line : goal.returns-clause-line
 returns-clause-line c lt =
     let rest = c.in-Some.rest.now in
-    let found =
-    position_from_yields_List feeds _ _ c.position-feed.result c.position-feed.ensures.ran
-    (YieldsList-from_slice rest (cc)) (λ x b q k. search (rules, tests)) in
     let same = c.in-Some.ensures.lookup.0.2 ∙ take_rest c.args.input.now c.args.from in
     line_at c.args.input.now c.args.from c.unwrap_or.result lt
     (c.unwrap_or.ensures
-    ∙ ap (λ o. unwrap_or o (length rest)) found
+    ∙ ap (λ o. unwrap_or o (length rest)) c.place_of-feed.ensures
     ∙ place feeds rest
     ∙ ap (position_or_len feeds) same)
